@@ -1,0 +1,3 @@
+pub mod Fnv
+pub mod Scheme
+pub mod Clockwise
