@@ -12,11 +12,7 @@ use borrow.Author.Tests.{eqb-true, eqb-false, ltb-true, ltb-false, eq-eqb, ne-eq
 use lib.Dec.{eqb, ltb}
 use Rattle.ring.specs.Scheme.{Positions}
 use Rattle.ring.specs.Clockwise.{clockwise, distance, sooner, key}
-
--- a test is true or false, and the equation is kept
-pub split {ℓ} : {C : Type ℓ} (b : Bool) → (b ≡ true → C) → (b ≡ false → C) → C
-split true f g = f refl
-split false f g = g refl
+use Rattle.ring.proofs.Tests.{split}
 
 module _ (p : Positions) (t r q : ℕ) where
   pub sooner-near : distance p t r < distance p t q → sooner p t r q ≡ true

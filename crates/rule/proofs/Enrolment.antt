@@ -1,0 +1,60 @@
+-- An enrolment, step by step: the table is always the rule's for everybody but the one who walks.
+-- Assumes nothing.
+use mathlib.Core.Bool.{Bool, true, false, _&&_, cond}
+use mathlib.Core.Path.{_≡_, refl, sym, ap, _∙_, subst}
+use mathlib.Core.List.{List, [], _∷_}
+use mathlib.Core.Logic.{_⊎_, inl, inr, ⊎-elim}
+use Prim.Native.Nat.{ℕ, zero, suc, _+_, _-_, _≤_, _<_}
+use native.Mathlib.Omega.{arith}
+use borrow.Author.Tests.{ltb-true, ltb-false, eqb-true, eqb-false, eq-eqb, ne-eqb}
+use lib.Dec.{eqb, ltb}
+use Rattle.ring.proofs.Tests.{split}
+use Rattle.rule.specs.Entry.{Entry, numbers, insert, delete, load}
+use Rattle.rule.specs.Rooms.{held, fill}
+use Rattle.rule.specs.Stability.{Rising, In, lower, Sits, Fair, Stable}
+use Rattle.rule.proofs.Chain.{settle, evict}
+use Rattle.rule.proofs.Counts.{sits-delete, sits-deleted}
+use Rattle.rule.proofs.Sets.{in-sits, sits-in, in-insert, insert-in, in-delete, delete-in, rising-insert, rising-delete, rising-in, rising-ext}
+use Rattle.rule.proofs.Stable.{fill-stable}
+
+-- p₀ is the table before, x the newcomer; w walks, and p is the table of all the others
+pub record Walk (key : ℕ → ℕ → ℕ) (rs p₀ : List Entry) (x : ℕ) (p : List Entry) (w : ℕ) : Type 0 where
+  pub stable : Stable key rs p
+  pub up : Rising 0 (numbers p)
+  pub some : 0 < w
+  pub out : In w (numbers p) → ⊥
+  pub to : (t : ℕ) → In t (numbers (insert w 0 p)) → In t (numbers (insert x 0 p₀))
+  pub from : (t : ℕ) → In t (numbers (insert x 0 p₀)) → In t (numbers (insert w 0 p))
+
+module _ (key : ℕ → ℕ → ℕ) (rs p₀ : List Entry) (x : ℕ) where
+  pub walk-start : Stable key rs p₀ → Rising 0 (numbers p₀) → 0 < x → (In x (numbers p₀) → ⊥) → Walk key rs p₀ x p₀ x
+  walk-start st up h n = record { stable = st; up = up; some = h; out = n; to = λ t i. i; from = λ t i. i }
+
+  pub walk-evict : (p : List Entry) (w : ℕ) → Walk key rs p₀ x p w → (c g : ℕ) → Fair key rs p w c → Sits p g c → w < g → ((n : ℕ) → Sits p n c → n ≤ g)
+      → Walk key rs p₀ x (insert w c (delete g p)) g
+  walk-evict p w k c g f sg l top =
+      record {
+        stable = evict key rs p 0 (k .up) (k .stable) w c g f sg l top;
+        up = rising-insert w c (delete g p) 0 (k .some) (rising-delete g p 0 (k .up)) (λ i. k .out (in-delete g p w i));
+        some = omega arith;
+        out = λ i. ⊎-elim (λ (e : g ≡ w). omega arith) (λ j. gone j) (in-insert w c (delete g p) g i);
+        to = λ t i. k .to t (insert-in w 0 p t
+            (⊎-elim (λ e. inr (rw e (sits-in p g c sg)))
+            (λ j. ⊎-elim (λ e. inl e) (λ j′. inr (in-delete g p t j′)) (in-insert w c (delete g p) t j)) (in-insert g 0 (insert w c (delete g p)) t i)));
+        from = λ t i. insert-in g 0 (insert w c (delete g p)) t
+            (split (eqb t g) (λ s. inl (eqb-true t g s))
+            (λ s. inr (insert-in w c (delete g p) t (⊎-elim (λ e. inl e) (λ j. inr (delete-in g p t j (eqb-false t g s))) (in-insert w 0 p t (k .from t i))))));
+      }
+    where
+      gone : In g (numbers (delete g p)) → ⊥
+      gone j = let v : (u : ℕ) × Sits (delete g p) g u = in-sits (delete g p) g j in sits-deleted g p 0 (k .up) g (v .0) (v .1) refl
+
+  -- the walker settles: the table is the rule's, for the old tablets and the newcomer
+  pub walk-settle : (Ok : ℕ → Type 0) (apart : (t r q : ℕ) → Ok r → Ok q → key t r ≡ key t q → r ≡ q) → ((r : ℕ) → 0 < held rs r → Ok r)
+      → (p : List Entry) (w : ℕ) → Walk key rs p₀ x p w → Rising 0 (numbers (insert x 0 p₀)) → (c : ℕ) → Fair key rs p w c → load p c < held rs c
+      → insert w c p ≡ fill key rs (numbers (insert x 0 p₀))
+  walk-settle Ok apart ok p w k up₀ c f free =
+      let up : Rising 0 (numbers (insert w c p)) = rising-insert w c p 0 (k .some) (k .up) (k .out) in
+      let e : numbers (insert w c p) ≡ numbers (insert x 0 p₀) =
+      rising-ext _ _ 0 up up₀ (λ t i. k .to t (insert-in w 0 p t (in-insert w c p t i))) (λ t i. insert-in w c p t (in-insert w 0 p t (k .from t i))) in
+      fill-stable key Ok apart (insert w c p) 0 rs up ok (settle key rs p 0 (k .up) (k .stable) w c f free) ∙ ap (fill key rs) e

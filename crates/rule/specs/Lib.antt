@@ -1,0 +1,12 @@
+pub mod Entry
+pub mod Order
+pub mod Rule
+pub mod Rooms
+pub mod Stability
+pub mod Refusals
+pub mod Calls
+pub mod Walks
+pub mod Sheet
+pub mod Balance
+pub mod Tally
+pub mod Drill

@@ -1,0 +1,45 @@
+-- The refusals and their numbers (document 01, "Replies"). Assumes nothing.
+use mathlib.Core.Bool.{Bool, true, false}
+use mathlib.Core.List.{List, [], _∷_}
+use Prim.Native.Nat.{ℕ}
+use lib.Dec.{eqb}
+use Rattle.rule.specs.declared.Refusal.{Refusal}
+use Rattle.rule.specs.declared.Refusal.the-variants.{Done, SchemeUnknown, TablesNotRight, NumberZero, TooLarge, NotThere, ThereAlready, NoUnusedPlace, LimitsTooSmall, MoveListTooShort, RosterShapeWrong, RosterContentWrong, OutputUnfit}
+use Rattle.rule.specs.declared.Reply.{Reply}
+
+abbrev pub numberOf : Refusal → ℕ
+numberOf Done = 0
+numberOf SchemeUnknown = 1
+numberOf TablesNotRight = 2
+numberOf NumberZero = 3
+numberOf TooLarge = 4
+numberOf NotThere = 5
+numberOf ThereAlready = 6
+numberOf NoUnusedPlace = 7
+numberOf LimitsTooSmall = 8
+numberOf MoveListTooShort = 9
+numberOf RosterShapeWrong = 10
+numberOf RosterContentWrong = 11
+numberOf OutputUnfit = 12
+
+unfoldable pub isDone : Refusal → Bool
+isDone r = eqb (numberOf r) 0
+
+-- a refused call gives 0 for the relay, the relays passed and the moves
+abbrev pub refusedBy : Refusal → Reply
+refusedBy r = record { refusal = r; relay = 0; passed = 0; moves = 0 }
+
+-- ---- in their order
+
+-- a refusal, and whether it applies
+pub record Bar : Type 0 where
+  pub applies : Bool
+  pub refusal : Refusal
+
+abbrev pub bar : Bool → Refusal → Bar
+bar b r = record { applies = b; refusal = r }
+
+-- the first that applies; written by rising number, that is the lowest
+unfoldable pub firstBar : List Bar → Refusal
+firstBar [] = Done
+firstBar (b ∷ bs) = elim (b .applies) [ true ↦ b .refusal | false ↦ firstBar bs ]

@@ -1,0 +1,72 @@
+-- What a station counts (document 01, "Sheet, balance, tally"). Assumes nothing.
+use mathlib.Core.Bool.{Bool, true, false}
+use mathlib.Core.List.{List, [], _∷_}
+use Prim.Native.Nat.{ℕ, _+_, min}
+use Rattle.ring.specs.Scheme.{Positions}
+use Rattle.rule.specs.declared.Call.{Call}
+use Rattle.rule.specs.declared.Call.the-variants.{Add, Remove, Set, Enrol, Withdraw, Find}
+use Rattle.rule.specs.declared.Reply.{Reply}
+use Rattle.rule.specs.declared.Tally.{Tally}
+use Rattle.rule.specs.Rule.{Ring}
+use Rattle.rule.specs.Refusals.{isDone}
+use Rattle.rule.specs.Calls.{Lent, Outcome, outcome}
+
+-- each count stops here
+abbrev pub mostCounted : ℕ
+mostCounted = 4294967295
+
+unfoldable pub more : ℕ → ℕ → ℕ
+more count by = min (count + by) mostCounted
+
+unfoldable pub enrolments : Call → ℕ
+enrolments (Add r limit) = 0
+enrolments (Remove r) = 0
+enrolments (Set r limit) = 0
+enrolments (Enrol t) = 1
+enrolments (Withdraw t) = 0
+enrolments (Find t) = 0
+
+unfoldable pub withdrawals : Call → ℕ
+withdrawals (Add r limit) = 0
+withdrawals (Remove r) = 0
+withdrawals (Set r limit) = 0
+withdrawals (Enrol t) = 0
+withdrawals (Withdraw t) = 1
+withdrawals (Find t) = 0
+
+-- an accepted call is counted with its moves; a refused one adds one to the refusals and nothing else
+unfoldable pub counted : Tally → Call → Reply → Tally
+counted t c r =
+    elim (isDone (r .refusal)) [
+      | true ↦ record {
+        enrolments = more (t .enrolments) (enrolments c);
+        withdrawals = more (t .withdrawals) (withdrawals c);
+        moves = more (t .moves) (r .moves);
+        refusals = t .refusals;
+      }
+      | false ↦ record { enrolments = t .enrolments; withdrawals = t .withdrawals; moves = t .moves; refusals = more (t .refusals) 1 }
+    ]
+
+-- ---- runs of calls
+
+-- a call, with what is lent to it besides the tables
+pub record Step : Type 0 where
+  pub lent : Lent
+  pub call : Call
+
+pub record Station : Type 0 where
+  pub ring : Ring
+  pub tally : Tally
+
+unfoldable pub step : Positions → Station → Step → Station
+step p s c =
+    let o : Outcome = outcome p (c .lent) (s .ring) (c .call) in
+    record { ring = o .ring; tally = counted (s .tally) (c .call) (o .reply) }
+
+unfoldable pub run : Positions → Station → List Step → Station
+run p s [] = s
+run p s (c ∷ cs) = run p (step p s c) cs
+
+-- empty tables and a zero tally
+unfoldable pub new : Station
+new = record { ring = record { relays = []; tablets = [] }; tally = record { enrolments = 0; withdrawals = 0; moves = 0; refusals = 0 } }
