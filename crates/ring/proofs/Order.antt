@@ -3,15 +3,14 @@
 --   sooner-key                            for 32-bit relay numbers it is the order of the keys
 --   key-apart                             two relays have two keys
 -- Assumes nothing.
-use mathlib.Core.Bool.{Bool, true, false, _&&_, _||_}
-use mathlib.Core.Path.{_≡_, refl, sym, _∙_}
-use mathlib.Core.Logic.{_⊎_, inl, inr, ⊎-elim}
-use Prim.Native.Nat.{ℕ, _+_, _*_, _^_, _≤_, _<_}
+use mathlib.Core.Bool.{true, false}
+use mathlib.Core.Path.{_≡_, sym, _∙_}
+use Prim.Native.Nat.{ℕ, _^_, _≤_, _<_}
 use native.Mathlib.Omega.{arith}
 use borrow.Author.Tests.{eqb-true, eqb-false, ltb-true, ltb-false, eq-eqb, ne-eqb, lt-ltb, le-ltb}
 use lib.Dec.{eqb, ltb}
 use Rattle.ring.specs.Scheme.{Positions}
-use Rattle.ring.specs.Clockwise.{clockwise, distance, sooner, key}
+use Rattle.ring.specs.Clockwise.{distance, sooner, key}
 use Rattle.ring.proofs.Tests.{split}
 
 module _ (p : Positions) (t r q : ℕ) where

@@ -7,24 +7,23 @@
 use mathlib.Core.Bool.{Bool, true, false, not, _&&_}
 use mathlib.Core.Path.{_≡_, refl, sym, ap, _∙_}
 use mathlib.Core.List.{List, [], _∷_}
-use mathlib.Core.Logic.{_⊎_, inl, inr, ⊎-elim}
-use mathlib.Core.Option.{Option, none, some}
-use Prim.Native.Nat.{ℕ, zero, suc, _+_, _^_, _≤_, _<_}
+use mathlib.Core.Logic.{inl, inr, ⊎-elim}
+use Prim.Native.Nat.{ℕ, _^_, _≤_, _<_}
 use native.Mathlib.Omega.{arith}
-use borrow.Author.Tests.{ltb-true, ltb-false, leb-true, eqb-true, eqb-false, eq-eqb, le-leb}
+use borrow.Author.Tests.{ltb-false, eqb-true, eqb-false, le-leb}
 use lib.Dec.{eqb, ltb, leb}
 use lib.ListN.{length}
 use Rattle.ring.specs.Scheme.{Positions}
 use Rattle.ring.specs.Clockwise.{key}
 use Rattle.ring.proofs.Tests.{split, and-left, and-right, not-false, true-false}
 use Rattle.rule.specs.declared.Refusal.{Refusal}
-use Rattle.rule.specs.declared.Refusal.the-variants.{Done, SchemeUnknown, TablesNotRight, NumberZero, TooLarge, NotThere, ThereAlready, NoUnusedPlace, LimitsTooSmall, MoveListTooShort}
+use Rattle.rule.specs.declared.Refusal.the-variants.{SchemeUnknown, TablesNotRight, NumberZero, TooLarge, NotThere, ThereAlready, NoUnusedPlace, LimitsTooSmall, MoveListTooShort}
 use Rattle.rule.specs.declared.Call.{Call}
 use Rattle.rule.specs.declared.Call.the-variants.{Add, Remove, Set, Enrol, Withdraw, Find}
-use Rattle.rule.specs.Entry.{Entry, entry, numbers, has, insert, delete, put, total}
-use Rattle.rule.specs.Rule.{Ring, placement, limitsFit, mostLimit, right}
+use Rattle.rule.specs.Entry.{Entry, numbers, has, insert, delete, put, total}
+use Rattle.rule.specs.Rule.{Ring, limitsFit, mostLimit, right}
 use Rattle.rule.specs.Refusals.{isDone, Bar, bar, firstBar}
-use Rattle.rule.specs.Calls.{Lent, subject, edited, orNobody, after, moves, wrongNumbers, refusal, accepted, declined, Outcome, outcome}
+use Rattle.rule.specs.Calls.{Lent, subject, edited, orNobody, after, moves, wrongNumbers, refusal, accepted, declined, outcome}
 use Rattle.rule.specs.Rooms.{fill}
 use Rattle.rule.specs.Stability.{Rising, In}
 use Rattle.rule.proofs.Stable.{numbers-fill}
@@ -32,7 +31,7 @@ use Rattle.rule.proofs.Sets.{in-insert, in-delete, rising-insert, risin
 use Rattle.rule.proofs.Orders.{Among, Small}
 use Rattle.rule.proofs.Placing.{placement-fill}
 use Rattle.rule.proofs.Right.{Table, Right, right-is, right-from, length-numbers}
-use Rattle.rule.proofs.Demand3.{has-in, in-has}
+use Rattle.rule.proofs.Demand3.{in-has}
 
 -- ---- refusals one by one
 

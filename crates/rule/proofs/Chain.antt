@@ -1,18 +1,17 @@
 -- One step of an enrolment and of a withdrawal, on placements that are stable but for one tablet.
 -- Assumes nothing.
-use mathlib.Core.Bool.{Bool, true, false, _&&_, cond}
-use mathlib.Core.Path.{_≡_, refl, sym, ap, _∙_, subst}
-use mathlib.Core.List.{List, [], _∷_}
-use mathlib.Core.Logic.{_⊎_, inl, inr, ⊎-elim}
-use Prim.Native.Nat.{ℕ, zero, suc, _+_, _-_, _≤_, _<_}
+use mathlib.Core.Path.{_≡_, ap}
+use mathlib.Core.List.{List}
+use mathlib.Core.Logic.{⊎-elim}
+use Prim.Native.Nat.{ℕ, _+_, _≤_, _<_}
 use native.Mathlib.Omega.{arith}
-use borrow.Author.Tests.{ltb-true, ltb-false, eqb-true, eqb-false, eq-eqb, ne-eqb, lt-ltb, le-ltb}
-use lib.Dec.{eqb, ltb, leb}
+use borrow.Author.Tests.{ltb-true, ltb-false, eqb-true, eqb-false}
+use lib.Dec.{eqb, ltb}
 use Rattle.ring.proofs.Tests.{split}
 use Rattle.rule.specs.Entry.{Entry, numbers, insert, delete, load}
 use Rattle.rule.specs.Rooms.{held}
 use Rattle.rule.specs.Stability.{Rising, lower, Sits, Fair, Stable}
-use Rattle.rule.proofs.Counts.{at, at-other, at-not, at-yes, at-le, at-one, lower-insert, lower-delete, lower-load, lower-load-one, lower-up, lower-between, sits-insert, sits-delete, sits-deleted}
+use Rattle.rule.proofs.Counts.{at, at-other, at-not, at-le, at-one, lower-insert, lower-delete, lower-load, lower-load-one, lower-between, sits-insert, sits-delete, sits-deleted}
 
 -- relay r has a hole since w, as if w still sat there: everybody else is fair with w in
 abbrev pub Hole : (ℕ → ℕ → ℕ) → List Entry → List Entry → ℕ → ℕ → Type 0

@@ -1,25 +1,23 @@
 -- Demand 3: on a ring that has no relay less, no limit lower and no tablet more, no tablet sits later.
 -- Assumes nothing.
-use mathlib.Core.Bool.{Bool, true, false, _||_, cond}
-use mathlib.Core.Path.{_≡_, refl, sym, ap, _∙_}
+use mathlib.Core.Bool.{true}
+use mathlib.Core.Path.{_≡_, refl, sym, _∙_}
 use mathlib.Core.List.{List, [], _∷_}
-use mathlib.Core.Logic.{_⊎_, inl, inr, ⊎-elim}
-use Prim.Native.Nat.{ℕ, _+_, _^_, _≤_, _<_}
+use mathlib.Core.Logic.{_⊎_, inl, inr}
+use Prim.Native.Nat.{ℕ, _^_, _≤_, _<_}
 use native.Mathlib.Omega.{arith}
-use borrow.Author.Tests.{ltb-true, ltb-false, eqb-true, eqb-false, eq-eqb, ne-eqb, lt-ltb}
+use borrow.Author.Tests.{ltb-true, ltb-false, eqb-true, eq-eqb}
 use lib.Dec.{eqb, ltb}
-use lib.ListN.{length}
 use Rattle.ring.specs.Scheme.{Positions}
 use Rattle.ring.specs.Clockwise.{sooner, key}
 use Rattle.ring.proofs.Tests.{split, true-false}
 use Rattle.ring.proofs.Order.{sooner-key, key-apart}
-use Rattle.rule.specs.Entry.{Entry, numbers, has, besideOf, total}
+use Rattle.rule.specs.Entry.{Entry, numbers, has, besideOf}
 use Rattle.rule.specs.Rule.{Ring, right}
 use Rattle.rule.specs.Rooms.{held, fill}
 use Rattle.rule.specs.Stability.{Rising, In, Sits}
 use Rattle.rule.proofs.Nearer.{nearer}
 use Rattle.rule.proofs.Exists.{held-above}
-use Rattle.rule.proofs.Sets.{in-sits}
 use Rattle.rule.proofs.Right.{Right, right-is, right-stable, held-small, length-numbers}
 
 -- ---- what a table has

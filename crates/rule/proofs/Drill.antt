@@ -1,6 +1,6 @@
 -- The drill of document 01 holds: cases 1 to 12, computed by the very definitions that the calls' contracts cite.
 -- Assumes nothing.
-use mathlib.Core.List.{List, map}
+use mathlib.Core.List.{map}
 use mathlib.Core.Path.{_≡_, refl}
 use Rattle.ring.specs.Scheme as Scheme
 use Rattle.ring.specs.Clockwise as Clockwise

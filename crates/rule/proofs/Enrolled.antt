@@ -2,32 +2,31 @@
 -- The invariant: all but the walker sit as the rule places them, and every relay where the lower numbers leave the walker room is still ahead
 -- of it. With each who sits down fewer numbers are above the walker's.
 -- Assumes nothing.
-use mathlib.Core.Bool.{Bool, true, false}
+use mathlib.Core.Bool.{true, false}
 use mathlib.Core.Path.{_≡_, refl, sym, ap, _∙_}
-use mathlib.Core.List.{List, [], _∷_}
-use mathlib.Core.Logic.{_⊎_, inl, inr, ⊎-elim}
-use mathlib.Core.Option.{Option, none, some}
+use mathlib.Core.List.{List}
+use mathlib.Core.Option.{some}
 use Prim.Native.Nat.{ℕ, zero, suc, _+_, _^_, _≤_, _<_}
 use native.Mathlib.Omega.{arith}
-use borrow.Author.Tests.{ltb-true, ltb-false, eqb-true, eqb-false, eq-eqb}
-use lib.Dec.{eqb, ltb}
+use borrow.Author.Tests.{ltb-true, ltb-false, eq-eqb}
+use lib.Dec.{ltb}
 use lib.ListN.{length}
 use Rattle.ring.specs.Scheme.{Positions}
 use Rattle.ring.specs.Clockwise.{key}
-use Rattle.ring.proofs.Tests.{split, true-false}
+use Rattle.ring.proofs.Tests.{split}
 use Rattle.ring.proofs.Order.{key-apart}
-use Rattle.rule.specs.Entry.{Entry, entry, numbers, insert, delete, total, load, first}
+use Rattle.rule.specs.Entry.{Entry, numbers, insert, delete, total, load, first}
 use Rattle.rule.specs.Order.{order}
 use Rattle.rule.specs.Rule.{Ring, hasRoom, placement}
-use Rattle.rule.specs.Walks.{Walked, satDown, greatest, stops, behind, walk, enrolled}
+use Rattle.rule.specs.Walks.{satDown, greatest, stops, behind, walk, enrolled}
 use Rattle.rule.specs.Rooms.{held, fill, choose, orZero}
 use Rattle.rule.specs.Stability.{Rising, In, Sits, lower, Fair}
-use Rattle.rule.proofs.Counts.{at, at-not, at-yes, above-sits, sits-delete, sits-deleted, load-delete, lower-insert, lower-delete, lower-load, lower-load-one, length-insert, length-delete, above, above-fewer, count-length}
-use Rattle.rule.proofs.Sets.{sits-in, rising-insert}
+use Rattle.rule.proofs.Counts.{at, at-not, at-yes, above-sits, sits-delete, sits-deleted, load-delete, lower-insert, lower-delete, length-insert, length-delete, above, above-fewer, count-length}
+use Rattle.rule.proofs.Sets.{rising-insert}
 use Rattle.rule.proofs.Exists.{left, fair-exists}
 use Rattle.rule.proofs.Enrolment.{Walk, walk-start, walk-evict, walk-settle}
 use Rattle.rule.proofs.Withdrawal.{load-held}
-use Rattle.rule.proofs.Orders.{Among, Sorted, Small, first-none, first-some, first-found, first-least, order-in, in-order, order-sorted, option-apart}
+use Rattle.rule.proofs.Orders.{Among, Sorted, first-some, first-found, first-least, order-in, in-order, order-sorted}
 use Rattle.rule.proofs.Placing.{among-held, held-among, placement-fill}
 use Rattle.rule.proofs.Searches.{greatest-sits, greatest-top, stops-lower, lower-stops, stops-full, behind-in, behind-sorted, in-behind}
 use Rattle.rule.proofs.Right.{Table, Right, right-stable, held-small, length-numbers}

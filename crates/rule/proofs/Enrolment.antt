@@ -1,20 +1,19 @@
 -- An enrolment, step by step: the table is always the rule's for everybody but the one who walks.
 -- Assumes nothing.
-use mathlib.Core.Bool.{Bool, true, false, _&&_, cond}
-use mathlib.Core.Path.{_≡_, refl, sym, ap, _∙_, subst}
-use mathlib.Core.List.{List, [], _∷_}
-use mathlib.Core.Logic.{_⊎_, inl, inr, ⊎-elim}
-use Prim.Native.Nat.{ℕ, zero, suc, _+_, _-_, _≤_, _<_}
+use mathlib.Core.Path.{_≡_, refl, ap, _∙_}
+use mathlib.Core.List.{List}
+use mathlib.Core.Logic.{inl, inr, ⊎-elim}
+use Prim.Native.Nat.{ℕ, _≤_, _<_}
 use native.Mathlib.Omega.{arith}
-use borrow.Author.Tests.{ltb-true, ltb-false, eqb-true, eqb-false, eq-eqb, ne-eqb}
-use lib.Dec.{eqb, ltb}
+use borrow.Author.Tests.{eqb-true, eqb-false}
+use lib.Dec.{eqb}
 use Rattle.ring.proofs.Tests.{split}
 use Rattle.rule.specs.Entry.{Entry, numbers, insert, delete, load}
 use Rattle.rule.specs.Rooms.{held, fill}
-use Rattle.rule.specs.Stability.{Rising, In, lower, Sits, Fair, Stable}
+use Rattle.rule.specs.Stability.{Rising, In, Sits, Fair, Stable}
 use Rattle.rule.proofs.Chain.{settle, evict}
-use Rattle.rule.proofs.Counts.{sits-delete, sits-deleted}
-use Rattle.rule.proofs.Sets.{in-sits, sits-in, in-insert, insert-in, in-delete, delete-in, rising-insert, rising-delete, rising-in, rising-ext}
+use Rattle.rule.proofs.Counts.{sits-deleted}
+use Rattle.rule.proofs.Sets.{in-sits, sits-in, in-insert, insert-in, in-delete, delete-in, rising-insert, rising-delete, rising-ext}
 use Rattle.rule.proofs.Stable.{fill-stable}
 
 -- p₀ is the table before, x the newcomer; w walks, and p is the table of all the others

@@ -1,18 +1,16 @@
 -- Where the limits sum to more than the tablets, a walker finds a relay.
 -- Assumes nothing.
-use mathlib.Core.Bool.{Bool, true, false, _&&_, cond}
-use mathlib.Core.Path.{_≡_, refl, sym, ap, _∙_, subst}
+use mathlib.Core.Path.{_≡_, refl, ap}
 use mathlib.Core.List.{List, [], _∷_}
-use mathlib.Core.Logic.{_⊎_, inl, inr, ⊎-elim}
-use Prim.Native.Nat.{ℕ, zero, suc, _+_, _-_, _≤_, _<_}
+use Prim.Native.Nat.{ℕ, _+_, _-_, _≤_, _<_}
 use native.Mathlib.Omega.{arith}
-use borrow.Author.Tests.{ltb-true, ltb-false, eqb-true, eqb-false, eq-eqb, ne-eqb}
-use lib.Dec.{eqb, ltb}
+use borrow.Author.Tests.{eqb-true, eqb-false, ne-eqb}
+use lib.Dec.{eqb}
 use lib.ListN.{length}
 use Rattle.ring.proofs.Tests.{split}
 use Rattle.rule.specs.Entry.{Entry, entry, numbers, total}
 use Rattle.rule.specs.Rooms.{held, choose, orZero}
-use Rattle.rule.specs.Stability.{Rising, In, lower, bit, Sits, Fair}
+use Rattle.rule.specs.Stability.{Rising, lower, Fair}
 use Rattle.rule.proofs.Counts.{at, at-one, at-other}
 use Rattle.rule.proofs.Rooms.{Best, choose-best, total-some}
 

@@ -2,21 +2,19 @@
 --   run-right      right tables stay right over any run of calls
 --   history-free   two runs that end in the same sets end in the same tables
 -- Assumes nothing.
-use mathlib.Core.Bool.{Bool, true, false, _&&_, _||_, cond}
+use mathlib.Core.Bool.{true}
 use mathlib.Core.Path.{_≡_, refl, sym, ap, _∙_}
 use mathlib.Core.List.{List, [], _∷_}
-use mathlib.Core.Logic.{_⊎_, inl, inr, ⊎-elim}
-use Prim.Native.Nat.{ℕ, _^_, _≤_, _<_}
+use mathlib.Core.Logic.{inl, inr}
+use Prim.Native.Nat.{ℕ, _^_, _<_}
 use native.Mathlib.Omega.{arith}
-use borrow.Author.Tests.{eqb-true, eqb-false, eq-eqb, ne-eqb}
-use lib.Dec.{eqb}
+use borrow.Author.Tests.{eq-eqb, ne-eqb}
 use Rattle.ring.specs.Scheme.{Positions}
 use Rattle.ring.specs.Clockwise.{key}
-use Rattle.ring.proofs.Tests.{split}
 use Rattle.rule.specs.Entry.{Entry, numbers, has, besideOf}
 use Rattle.rule.specs.Rule.{Ring, right}
 use Rattle.rule.specs.Calls.{subject}
-use Rattle.rule.specs.Tally.{Step, Station, step, run, new}
+use Rattle.rule.specs.Tally.{Step, Station, step, run}
 use Rattle.rule.specs.Rooms.{fill}
 use Rattle.rule.specs.Stability.{Rising, In}
 use Rattle.rule.proofs.Sets.{rising-in, rising-ext}

@@ -1,8 +1,9 @@
+-- The laws of placement, each file above those that it cites.
 pub mod Drill
 pub mod Rooms
-pub mod Stable
 pub mod Sets
 pub mod Counts
+pub mod Stable
 pub mod Exists
 pub mod Chain
 pub mod Enrolment

@@ -1,19 +1,18 @@
--- Demand 3: with no relay less and no tablet more, no tablet is placed further.
+-- The step behind demand 3, over any preference and the filling of rooms: with nowhere less room and no tablet more, no tablet is placed later.
 -- Assumes nothing.
-use mathlib.Core.Bool.{Bool, true, false, _&&_, cond}
-use mathlib.Core.Path.{_≡_, refl, sym, ap, _∙_, subst}
+use mathlib.Core.Path.{_≡_, refl, sym, ap, _∙_}
 use mathlib.Core.List.{List, [], _∷_}
-use mathlib.Core.Logic.{_⊎_, inl, inr, ⊎-elim}
-use mathlib.Core.Option.{Option, none, some}
-use Prim.Native.Nat.{ℕ, zero, suc, _+_, _-_, _≤_, _<_}
+use mathlib.Core.Logic.{inl, inr, ⊎-elim}
+use Prim.Native.Nat.{ℕ, _-_, _≤_, _<_}
 use native.Mathlib.Omega.{arith}
-use borrow.Author.Tests.{ltb-true, ltb-false, eqb-true, eqb-false, eq-eqb, ne-eqb, lt-ltb, le-ltb}
-use lib.Dec.{eqb, ltb, leb}
+use borrow.Author.Tests.{ltb-true, ltb-false, eqb-true, eqb-false, eq-eqb, ne-eqb}
+use lib.Dec.{eqb, ltb}
 use lib.ListN.{length}
 use Rattle.ring.proofs.Tests.{split}
 use Rattle.rule.specs.Entry.{Entry, total, besideOf, entry}
 use Rattle.rule.specs.Rooms.{held, choose, orZero, less, fill}
 use Rattle.rule.specs.Stability.{Rising, In}
+use Rattle.rule.proofs.Sets.{rising-in, in-rest}
 use Rattle.rule.proofs.Rooms.{held-less, Best, choose-best, total-some, total-less}
 
 -- the first list, with some of the second's left out
@@ -22,20 +21,11 @@ pub data Sub : List ℕ → List ℕ → Type 0 where
   keep : {t : ℕ} {ts us : List ℕ} → Sub ts us → Sub (t ∷ ts) (t ∷ us)
   skip : {u : ℕ} {ts us : List ℕ} → Sub ts us → Sub ts (u ∷ us)
 
-rising-in : (low : ℕ) (us : List ℕ) (t : ℕ) → Rising low us → In t us → low < t
-rising-in low [] t h i = absurd i
-rising-in low (u ∷ us) t h (inl p) = rw p (h .0)
-rising-in low (u ∷ us) t h (inr i) = omega (arith, rising-in u us t (h .1) i, h .0)
-
 sub-in : {ts us : List ℕ} → Sub ts us → (t : ℕ) → In t ts → In t us
 sub-in done t i = i
 sub-in (keep s) t (inl p) = inl p
 sub-in (keep s) t (inr i) = inr (sub-in s t i)
 sub-in (skip s) t i = inr (sub-in s t i)
-
-in-rest : (u : ℕ) (us : List ℕ) (t : ℕ) → (t ≡ u → ⊥) → In t (u ∷ us) → In t us
-in-rest u us t n (inl p) = absurd (n p)
-in-rest u us t n (inr i) = i
 
 -- what rises and is contained is the other with some left out
 sub-of : (us ts : List ℕ) (low : ℕ) → Rising low us → (low′ : ℕ) → Rising low′ ts → ((t : ℕ) → In t ts → In t us) → Sub ts us

@@ -3,21 +3,21 @@
 --   placement-fill    where the limits sum to no fewer than the tablets, the placement is `fill`
 --   placement-none    where they sum to fewer there is none
 -- Assumes nothing.
-use mathlib.Core.Bool.{Bool, true, false, cond}
+use mathlib.Core.Bool.{true, false, cond}
 use mathlib.Core.Path.{_≡_, refl, sym, ap, _∙_}
 use mathlib.Core.List.{List, [], _∷_, _++_, append-nil, append-assoc}
-use mathlib.Core.Logic.{_⊎_, inl, inr, ⊎-elim}
+use mathlib.Core.Logic.{inl, inr}
 use mathlib.Core.Option.{Option, none, some}
-use Prim.Native.Nat.{ℕ, zero, suc, _+_, _-_, _^_, _≤_, _<_}
+use Prim.Native.Nat.{ℕ, _+_, _-_, _^_, _≤_, _<_}
 use native.Mathlib.Omega.{arith}
-use borrow.Author.Tests.{ltb-true, ltb-false, eqb-true, eqb-false, eq-eqb, ne-eqb, lt-ltb, le-ltb}
+use borrow.Author.Tests.{ltb-true, ltb-false, eqb-true, eqb-false, eq-eqb, ne-eqb, lt-ltb}
 use lib.Dec.{eqb, ltb}
 use lib.ListN.{length}
 use Rattle.ring.specs.Scheme.{Positions}
 use Rattle.ring.specs.Clockwise.{key}
 use Rattle.ring.proofs.Tests.{split, true-false}
 use Rattle.ring.proofs.Order.{key-apart}
-use Rattle.rule.specs.Entry.{Entry, entry, numbers, total, count, load, first}
+use Rattle.rule.specs.Entry.{Entry, entry, numbers, total, count, load}
 use Rattle.rule.specs.Order.{order}
 use Rattle.rule.specs.Rule.{hasRoom, seat, seatAll, placement}
 use Rattle.rule.specs.Rooms.{held, rooms, choose, orZero, less, fill}
@@ -25,7 +25,7 @@ use Rattle.rule.specs.Stability.{Rising}
 use Rattle.rule.proofs.Rooms.{Best, choose-best, total-some, total-less}
 use Rattle.rule.proofs.Stable.{best-one}
 use Rattle.rule.proofs.Exists.{held-above}
-use Rattle.rule.proofs.Orders.{Among, Small, first-none, first-some, first-least, order-in, in-order, order-sorted, option-some}
+use Rattle.rule.proofs.Orders.{Among, Small, first-none, first-some, first-least, order-in, in-order, order-sorted}
 
 -- ---- entries by their numbers
 

@@ -3,28 +3,27 @@
 --   right-stable, stable-right    right tables are those in which no tablet could sit earlier
 --   right-loads                   no relay holds more than its limit
 -- Assumes nothing.
-use mathlib.Core.Bool.{Bool, true, false, _&&_}
+use mathlib.Core.Bool.{Bool, true, _&&_}
 use mathlib.Core.Path.{_≡_, refl, sym, ap, _∙_}
 use mathlib.Core.List.{List, [], _∷_}
-use mathlib.Core.Logic.{_⊎_, inl, inr, ⊎-elim}
+use mathlib.Core.Logic.{inl, inr, ⊎-elim}
 use mathlib.Core.Option.{Option, none, some}
-use Prim.Native.Nat.{ℕ, zero, suc, _+_, _^_, _≤_, _<_}
+use Prim.Native.Nat.{ℕ, suc, _^_, _≤_, _<_}
 use native.Mathlib.Omega.{arith}
-use borrow.Author.Tests.{ltb-true, ltb-false, leb-true, eqb-true, eqb-false, eq-eqb, ne-eqb, lt-ltb, le-leb}
+use borrow.Author.Tests.{ltb-true, ltb-false, leb-true, eqb-true, eq-eqb, lt-ltb, le-leb}
 use lib.Dec.{eqb, ltb, leb}
 use lib.ListN.{length}
 use Rattle.ring.specs.Scheme.{Positions}
 use Rattle.ring.specs.Clockwise.{key}
 use Rattle.ring.proofs.Tests.{split, and-left, and-right, true-false}
 use Rattle.ring.proofs.Order.{key-apart}
-use Rattle.rule.specs.Entry.{Entry, numbers, has, besideOf, total, load}
+use Rattle.rule.specs.Entry.{Entry, numbers, total, load}
 use Rattle.rule.specs.Rule.{Ring, placement, rising, limitsFit, same, isJust, right}
 use Rattle.rule.specs.Rooms.{held, less, fill}
-use Rattle.rule.specs.Stability.{Rising, In, Sits, Fair, Stable}
-use Rattle.rule.proofs.Rooms.{Best, held-less, total-less}
+use Rattle.rule.specs.Stability.{Rising, Stable}
+use Rattle.rule.proofs.Rooms.{Best, total-less}
 use Rattle.rule.proofs.Stable.{stable-fill, fill-stable, head-fair, tail-fair}
 use Rattle.rule.proofs.Counts.{sits-above}
-use Rattle.rule.proofs.Exists.{held-above}
 use Rattle.rule.proofs.Orders.{Among, Small, option-some, option-apart}
 use Rattle.rule.proofs.Placing.{held-among, placement-fill, placement-none}
 use Rattle.rule.proofs.Withdrawal.{load-held}

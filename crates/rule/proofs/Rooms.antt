@@ -1,17 +1,17 @@
 -- Rooms, one by one: what `less`, `choose` and `total` say of `held`.
 -- Assumes nothing.
-use mathlib.Core.Bool.{Bool, true, false, _&&_, cond}
-use mathlib.Core.Path.{_≡_, refl, sym, ap, _∙_, subst}
+use mathlib.Core.Bool.{cond}
+use mathlib.Core.Path.{_≡_, refl, sym, ap, _∙_}
 use mathlib.Core.List.{List, [], _∷_}
 use mathlib.Core.Logic.{_⊎_, inl, inr, ⊎-elim}
 use mathlib.Core.Option.{Option, none, some}
-use Prim.Native.Nat.{ℕ, zero, suc, _+_, _-_, _≤_, _<_}
+use Prim.Native.Nat.{ℕ, _+_, _-_, _≤_, _<_}
 use native.Mathlib.Omega.{arith}
-use borrow.Author.Tests.{ltb-true, ltb-false, eqb-true, eqb-false, eq-eqb, ne-eqb, lt-ltb, le-ltb}
-use lib.Dec.{eqb, ltb, leb}
+use borrow.Author.Tests.{ltb-true, ltb-false, eqb-true, eqb-false, eq-eqb, ne-eqb}
+use lib.Dec.{eqb, ltb}
 use Rattle.ring.proofs.Tests.{split}
 use Rattle.rule.specs.Entry.{Entry, total}
-use Rattle.rule.specs.Rooms.{held, better, chooseFrom, choose, orZero, less, fill}
+use Rattle.rule.specs.Rooms.{held, better, chooseFrom, choose, orZero, less}
 
 -- the same test, by an equation of numbers
 eqb-same : (a b q : ℕ) → a ≡ b → eqb a q ≡ eqb b q

@@ -1,12 +1,11 @@
 -- The numbers of a table as a set.
 -- Assumes nothing.
-use mathlib.Core.Bool.{Bool, true, false, _&&_, cond}
-use mathlib.Core.Path.{_≡_, refl, sym, ap, _∙_, subst}
+use mathlib.Core.Path.{_≡_, refl, sym, _∙_}
 use mathlib.Core.List.{List, [], _∷_}
 use mathlib.Core.Logic.{_⊎_, inl, inr, ⊎-elim}
-use Prim.Native.Nat.{ℕ, zero, suc, _+_, _-_, _≤_, _<_}
+use Prim.Native.Nat.{ℕ, _≤_, _<_}
 use native.Mathlib.Omega.{arith}
-use borrow.Author.Tests.{ltb-true, ltb-false, eqb-true, eqb-false, eq-eqb, ne-eqb}
+use borrow.Author.Tests.{ltb-true, ltb-false, eqb-true}
 use lib.Dec.{eqb, ltb}
 use Rattle.ring.proofs.Tests.{split}
 use Rattle.rule.specs.Entry.{Entry, numbers, insert, delete}
@@ -86,8 +85,8 @@ rising-in low [] t h i = absurd i
 rising-in low (u ∷ us) t h (inl p) = rw p (h .0)
 rising-in low (u ∷ us) t h (inr i) = omega (arith, rising-in u us t (h .1) i, h .0)
 
-in-rest : (u : ℕ) (us : List ℕ) (t : ℕ) → u < t → In t (u ∷ us) → In t us
-in-rest u us t n (inl p) = absurd (omega arith)
+pub in-rest : (u : ℕ) (us : List ℕ) (t : ℕ) → (t ≡ u → ⊥) → In t (u ∷ us) → In t us
+in-rest u us t n (inl p) = absurd (n p)
 in-rest u us t n (inr i) = i
 
 in-least : (u : ℕ) (us : List ℕ) (t : ℕ) → Rising u us → In t (u ∷ us) → u ≤ t
@@ -104,6 +103,6 @@ rising-ext (x ∷ l) (y ∷ k) low u v f g =
     let b : x ≤ y = in-least x l y (u .1) (g y (inl refl)) in
     let e : x ≡ y = omega arith in
     let ih : l ≡ k = rising-ext l k x (u .1) (rising-low k y x b (v .1))
-    (λ t i. in-rest y k t (omega (arith, rising-in x l t (u .1) i)) (f t (inr i)))
-    (λ t i. in-rest x l t (omega (arith, rising-in y k t (v .1) i)) (g t (inr i))) in
+    (λ t i. in-rest y k t (λ (z : t ≡ y). omega (arith, rising-in x l t (u .1) i)) (f t (inr i)))
+    (λ t i. in-rest x l t (λ (z : t ≡ x). omega (arith, rising-in y k t (v .1) i)) (g t (inr i))) in
     rw (e, ih)

@@ -1,19 +1,19 @@
 -- The rule without its history: a placement is the rule's exactly where every tablet has the nearest relay that the lower ones leave it.
 -- Assumes nothing.
-use mathlib.Core.Bool.{Bool, true, false, _&&_, cond}
-use mathlib.Core.Path.{_≡_, refl, sym, ap, _∙_, subst}
+use mathlib.Core.Bool.{cond}
+use mathlib.Core.Path.{_≡_, refl, ap}
 use mathlib.Core.List.{List, [], _∷_}
-use mathlib.Core.Logic.{_⊎_, inl, inr, ⊎-elim}
-use mathlib.Core.Option.{Option, none, some}
-use Prim.Native.Nat.{ℕ, zero, suc, _+_, _-_, _≤_, _<_}
+use mathlib.Core.Logic.{inl, inr, ⊎-elim}
+use Prim.Native.Nat.{ℕ, suc, _+_, _≤_, _<_}
 use native.Mathlib.Omega.{arith}
-use borrow.Author.Tests.{ltb-true, ltb-false, eqb-true, eqb-false, eq-eqb, ne-eqb, lt-ltb, le-ltb}
-use lib.Dec.{eqb, ltb, leb}
+use borrow.Author.Tests.{lt-ltb, le-ltb}
+use lib.Dec.{eqb}
 use lib.ListN.{length}
 use Rattle.ring.proofs.Tests.{split}
-use Rattle.rule.specs.Entry.{Entry, total, besideOf, numbers, entry}
+use Rattle.rule.specs.Entry.{Entry, total, numbers, entry}
 use Rattle.rule.specs.Rooms.{held, choose, orZero, less, fill}
-use Rattle.rule.specs.Stability.{Rising, In, bit, lower, Sits, Fair, Stable}
+use Rattle.rule.specs.Stability.{Rising, bit, lower, Sits, Fair, Stable}
+use Rattle.rule.proofs.Counts.{sits-above}
 use Rattle.rule.proofs.Rooms.{held-less, Best, choose-best, total-some, total-less}
 
 -- nobody is lower than the lowest
@@ -23,12 +23,6 @@ lower-none [] low q n up h = refl
 lower-none (e ∷ p) low q n up h =
     rw (le-ltb (e .number) n (omega (arith, up .0)), lower-none p (e .number) q n (up .1) (omega (arith, up .0)))
     (split (eqb (e .beside) q) (λ s. rw s) (λ s. rw s))
-
-sits-above : (p : List Entry) (low n v : ℕ) → Rising low (numbers p) → Sits p n v → low < n
-unfolding numbers
-sits-above [] low n v up i = absurd i
-sits-above (e ∷ p) low n v up (inl u) = omega (arith, up .0, u .0)
-sits-above (e ∷ p) low n v up (inr i) = omega (arith, up .0, sits-above p (e .number) n v (up .1) i)
 
 -- the counts with one more in front
 lower-front : (e : Entry) (p : List Entry) (q n : ℕ) → e .number < n → lower (e ∷ p) q n ≡ cond (eqb (e .beside) q) 1 0 + lower p q n

@@ -2,30 +2,28 @@
 --   loads-length   the relays' loads sum to the tablets
 --   tally-loads    from empty tables and a zero tally, while no count has stopped, they sum to enrolments less withdrawals
 -- Assumes nothing.
-use mathlib.Core.Bool.{Bool, true, false, not, _&&_, cond}
-use mathlib.Core.Path.{_≡_, refl, sym, ap, _∙_}
+use mathlib.Core.Bool.{true, false, not}
+use mathlib.Core.Path.{_≡_, refl, ap, _∙_}
 use mathlib.Core.List.{List, [], _∷_}
-use mathlib.Core.Logic.{_⊎_, inl, inr, ⊎-elim}
-use Prim.Native.Nat.{ℕ, zero, suc, _+_, _^_, _≤_, _<_, min}
+use mathlib.Core.Logic.{inl, inr, ⊎-elim}
+use Prim.Native.Nat.{ℕ, suc, _+_, _^_, _≤_, _<_}
 use native.Mathlib.Omega.{arith}
-use borrow.Author.Tests.{eqb-true, eqb-false, eq-eqb, ne-eqb}
+use borrow.Author.Tests.{eqb-true, eqb-false, ne-eqb}
 use lib.Dec.{eqb}
 use lib.ListN.{length}
 use Rattle.ring.specs.Scheme.{Positions}
-use Rattle.ring.specs.Clockwise.{key}
 use Rattle.ring.proofs.Tests.{split, not-false}
 use Rattle.rule.specs.declared.Call.{Call}
 use Rattle.rule.specs.declared.Call.the-variants.{Add, Remove, Set, Enrol, Withdraw, Find}
 use Rattle.rule.specs.declared.Refusal.the-variants.{NumberZero, NotThere}
 use Rattle.rule.specs.declared.Reply.{Reply}
 use Rattle.rule.specs.declared.Tally.{Tally}
-use Rattle.rule.specs.Entry.{Entry, numbers, has, besideOf, insert, delete, load, loads, count}
+use Rattle.rule.specs.Entry.{Entry, numbers, has, besideOf, load, loads, count}
 use Rattle.rule.specs.Rule as Rule
 use Rattle.rule.specs.Rule.{Ring, right}
 use Rattle.rule.specs.Refusals.{isDone, refusedBy, Bar, bar, firstBar}
 use Rattle.rule.specs.Calls.{Lent, subject, edited, after, wrongNumbers, refusal, accepted, declined, outcome}
 use Rattle.rule.specs.Tally.{mostCounted, more, enrolments, withdrawals, counted, Step, Station, step, run, new}
-use Rattle.rule.specs.Rooms.{held}
 use Rattle.rule.specs.Stability.{Rising, In, Sits}
 use Rattle.rule.proofs.Counts.{length-insert, length-delete}
 use Rattle.rule.proofs.Right.{Right, right-is, right-stable}

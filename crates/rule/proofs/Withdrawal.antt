@@ -1,21 +1,20 @@
 -- A withdrawal, step by step: a relay has a hole, and everybody sits as if it were still taken.
 -- Assumes nothing.
-use mathlib.Core.Bool.{Bool, true, false, _&&_, cond}
-use mathlib.Core.Path.{_≡_, refl, sym, ap, _∙_, subst}
+use mathlib.Core.Path.{_≡_, refl, sym, ap, _∙_}
 use mathlib.Core.List.{List, [], _∷_}
-use mathlib.Core.Logic.{_⊎_, inl, inr, ⊎-elim}
-use Prim.Native.Nat.{ℕ, zero, suc, _+_, _-_, _≤_, _<_}
+use mathlib.Core.Logic.{inl, inr, ⊎-elim}
+use Prim.Native.Nat.{ℕ, _≤_, _<_}
 use native.Mathlib.Omega.{arith}
-use borrow.Author.Tests.{ltb-true, ltb-false, eqb-true, eqb-false, eq-eqb, ne-eqb}
-use lib.Dec.{eqb, ltb}
+use borrow.Author.Tests.{eqb-true, eqb-false, eq-eqb, ne-eqb}
+use lib.Dec.{eqb}
 use Rattle.ring.proofs.Tests.{split}
 use Rattle.rule.specs.Entry.{Entry, numbers, insert, delete, load, count}
 use Rattle.rule.specs.Rooms.{held, less, fill}
-use Rattle.rule.specs.Stability.{Rising, In, lower, Sits, Fair, Stable}
+use Rattle.rule.specs.Stability.{Rising, In, Sits, Fair, Stable}
 use Rattle.rule.proofs.Chain.{Hole, closed, refill}
-use Rattle.rule.proofs.Counts.{at, at-not, lower-insert, lower-delete, lower-load, load-insert, load-delete, sits-above, sits-delete, sits-deleted}
+use Rattle.rule.proofs.Counts.{at, lower-insert, lower-delete, load-insert, load-delete, sits-above, sits-delete, sits-deleted}
 use Rattle.rule.proofs.Rooms.{Best, held-less}
-use Rattle.rule.proofs.Sets.{in-sits, sits-in, in-insert, insert-in, in-delete, delete-in, rising-insert, rising-delete, rising-in, rising-ext}
+use Rattle.rule.proofs.Sets.{in-sits, sits-in, in-insert, insert-in, in-delete, delete-in, rising-insert, rising-delete, rising-ext}
 use Rattle.rule.proofs.Stable.{fill-stable, head-fair, tail-fair}
 
 -- no relay holds more than its limit

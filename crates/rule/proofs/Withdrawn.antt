@@ -2,29 +2,28 @@
 -- The invariant (`Gap`): everybody sits as if the hole were still taken by who left it. Whoever takes it has a greater number, so that fewer
 -- and fewer numbers are left above.
 -- Assumes nothing.
-use mathlib.Core.Bool.{Bool, true, false}
+use mathlib.Core.Bool.{true, false}
 use mathlib.Core.Path.{_≡_, refl, sym, ap, _∙_}
 use mathlib.Core.List.{List, [], _∷_}
-use mathlib.Core.Logic.{_⊎_, inl, inr, ⊎-elim}
+use mathlib.Core.Logic.{⊎-elim}
 use mathlib.Core.Option.{Option, none, some}
-use Prim.Native.Nat.{ℕ, zero, suc, _+_, _^_, _≤_, _<_}
+use Prim.Native.Nat.{ℕ, zero, suc, _^_, _≤_, _<_}
 use native.Mathlib.Omega.{arith}
 use borrow.Author.Tests.{ltb-true, ltb-false, lt-ltb, le-ltb}
-use lib.Dec.{eqb, ltb}
+use lib.Dec.{ltb}
 use lib.ListN.{length}
 use Rattle.ring.specs.Scheme.{Positions}
-use Rattle.ring.specs.Clockwise.{sooner, key}
-use Rattle.ring.proofs.Tests.{split, true-false}
+use Rattle.ring.specs.Clockwise.{key}
+use Rattle.ring.proofs.Tests.{split}
 use Rattle.ring.proofs.Order.{sooner-key, key-apart}
-use Rattle.rule.specs.Entry.{Entry, entry, numbers, has, besideOf, insert, delete, total, load, count}
+use Rattle.rule.specs.Entry.{Entry, entry, numbers, has, besideOf, insert, delete, count}
 use Rattle.rule.specs.Rule.{Ring, placement}
-use Rattle.rule.specs.Walks.{Walked, satDown, hadPassed, lowest, fillHole, withdrawn}
-use Rattle.rule.specs.Rooms.{held, fill}
-use Rattle.rule.specs.Stability.{Rising, In, Sits, lower, Fair}
-use Rattle.rule.proofs.Counts.{above, above-fewer, count-length, count-insert, length-delete}
+use Rattle.rule.specs.Walks.{satDown, hadPassed, lowest, fillHole, withdrawn}
+use Rattle.rule.specs.Rooms.{fill}
+use Rattle.rule.specs.Stability.{Rising, Sits}
+use Rattle.rule.proofs.Counts.{above, above-fewer, count-length, length-delete}
 use Rattle.rule.proofs.Chain.{later}
 use Rattle.rule.proofs.Withdrawal.{Gap, gap-start, gap-step, gap-end}
-use Rattle.rule.proofs.Orders.{Among}
 use Rattle.rule.proofs.Placing.{placement-fill}
 use Rattle.rule.proofs.Searches.{sits-among, among-sits, lowest-some, lowest-none, lowest-least}
 use Rattle.rule.proofs.Right.{Table, Right, right-stable, held-small, length-numbers}

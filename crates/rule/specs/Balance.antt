@@ -1,12 +1,12 @@
 -- The balanced limit (document 01, "Sheet, balance, tally"). Assumes nothing.
-use mathlib.Core.Bool.{Bool, true, false, _||_, cond}
+use mathlib.Core.Bool.{_||_, cond}
 use mathlib.Core.List.{[], _∷_}
 use Prim.Native.Nat.{ℕ, _+_, _-_, _*_, _/_, min}
 use lib.Dec.{eqb, ltb}
 use Rattle.rule.specs.declared.Refusal.{Refusal}
-use Rattle.rule.specs.declared.Refusal.the-variants.{Done, NumberZero, TooLarge}
+use Rattle.rule.specs.declared.Refusal.the-variants.{NumberZero, TooLarge}
 use Rattle.rule.specs.Rule.{mostLimit}
-use Rattle.rule.specs.Refusals.{isDone, Bar, bar, firstBar}
+use Rattle.rule.specs.Refusals.{isDone, bar, firstBar}
 
 pub record Balanced : Type 0 where
   pub refusal : Refusal

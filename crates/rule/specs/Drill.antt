@@ -6,12 +6,12 @@ use Prim.Native.Nat.{ℕ}
 use lib.ListN.{length}
 use Rattle.ring.specs.Scheme.{Positions}
 use Rattle.rule.specs.declared.Refusal.{Refusal}
-use Rattle.rule.specs.declared.Refusal.the-variants.{Done, NotThere, ThereAlready, LimitsTooSmall}
+use Rattle.rule.specs.declared.Refusal.the-variants.{Done, ThereAlready, LimitsTooSmall}
 use Rattle.rule.specs.declared.Call.{Call}
 use Rattle.rule.specs.declared.Call.the-variants.{Add, Remove, Set, Enrol, Withdraw, Find}
 use Rattle.rule.specs.declared.Reply.{Reply}
 use Rattle.rule.specs.declared.Move.{Move}
-use Rattle.rule.specs.Entry.{Entry, entry}
+use Rattle.rule.specs.Entry.{entry}
 use Rattle.rule.specs.Rule.{Ring}
 use Rattle.rule.specs.Calls.{Lent, Outcome, outcome}
 

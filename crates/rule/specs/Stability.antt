@@ -5,9 +5,9 @@ use mathlib.Core.Bool.{Bool, true, false, _&&_}
 use mathlib.Core.List.{List, [], _∷_}
 use mathlib.Core.Logic.{_⊎_}
 use mathlib.Core.Path.{_≡_}
-use Prim.Native.Nat.{ℕ, _+_, _-_, _<_, _≤_}
+use Prim.Native.Nat.{ℕ, _+_, _<_, _≤_}
 use lib.Dec.{eqb, ltb}
-use Rattle.rule.specs.Entry.{Entry, entry}
+use Rattle.rule.specs.Entry.{Entry}
 use Rattle.rule.specs.Rooms.{held}
 
 -- the numbers rise strictly, all above low

@@ -1,5 +1,5 @@
 -- What a station counts (document 01, "Sheet, balance, tally"). Assumes nothing.
-use mathlib.Core.Bool.{Bool, true, false}
+use mathlib.Core.Bool.{true, false}
 use mathlib.Core.List.{List, [], _∷_}
 use Prim.Native.Nat.{ℕ, _+_, min}
 use Rattle.ring.specs.Scheme.{Positions}

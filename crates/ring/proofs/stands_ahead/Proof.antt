@@ -3,7 +3,6 @@
 use mathlib.Core.Path.{_≡_, sym, ap₂, _∙_}
 use native.Mathlib.Omega.{arith}
 use borrow.Author.Needs.{needs}
-use borrow.Author.Tests.{eq-eqb, ne-eqb, lt-ltb, le-ltb}
 use Rattle.ring.specs.Scheme.{positions}
 use Rattle.ring.specs.Clockwise.{clockwise, distance}
 use Rattle.ring.proofs.Order.{sooner-near, sooner-tie, sooner-far}
