@@ -24,6 +24,10 @@ and-right true false e = e
 and-right false true e = refl
 and-right false false e = e
 
+pub and-false : (b : Bool) → (b && false) ≡ false
+and-false true = refl
+and-false false = refl
+
 pub not-false : (b : Bool) → not b ≡ false → b ≡ true
 not-false true e = refl
 not-false false e = sym e

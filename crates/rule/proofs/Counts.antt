@@ -1,7 +1,7 @@
 -- Counts and places under an entry put in or taken out.
 -- Assumes nothing.
 use mathlib.Core.Bool.{Bool, _&&_, cond}
-use mathlib.Core.Path.{_≡_, refl, ap, _∙_}
+use mathlib.Core.Path.{_≡_, refl, sym, ap, _∙_}
 use mathlib.Core.List.{List, [], _∷_}
 use mathlib.Core.Logic.{_⊎_, inl, inr, ⊎-elim}
 use Prim.Native.Nat.{ℕ, suc, _+_, _≤_, _<_}
@@ -108,6 +108,14 @@ sits-insert m r (e ∷ p) n v =
     (λ s. rw (s, insert) (λ i. i))
     (λ s. rw (s, insert) (λ i. ⊎-elim (λ u. inr (inl u)) (λ j. ⊎-elim (λ u. inl u) (λ w. inr (inr w)) (sits-insert m r p n v j)) i))
 
+pub insert-sits : (m r : ℕ) (p : List Entry) (n v : ℕ) → ((m ≡ n) × (r ≡ v)) ⊎ Sits p n v → Sits (insert m r p) n v
+unfolding insert
+insert-sits m r [] n v = λ i. i
+insert-sits m r (e ∷ p) n v =
+    split (ltb m (e .number))
+    (λ s. rw (s, insert) (λ i. i))
+    (λ s. rw (s, insert) (λ i. ⊎-elim (λ u. inr (insert-sits m r p n v (inl u))) (λ j. ⊎-elim (λ u. inl u) (λ w. inr (insert-sits m r p n v (inr w))) j) i))
+
 pub sits-delete : (m : ℕ) (p : List Entry) (n v : ℕ) → Sits (delete m p) n v → Sits p n v
 unfolding delete
 sits-delete m [] n v = λ i. i
@@ -115,6 +123,14 @@ sits-delete m (e ∷ p) n v =
     split (eqb (e .number) m)
     (λ s. rw (s, delete) (λ i. inr i))
     (λ s. rw (s, delete) (λ i. ⊎-elim (λ u. inl u) (λ j. inr (sits-delete m p n v j)) i))
+
+pub delete-sits : (m : ℕ) (p : List Entry) (n v : ℕ) → Sits p n v → (n ≡ m → ⊥) → Sits (delete m p) n v
+unfolding delete
+delete-sits m [] n v = λ i d. i
+delete-sits m (e ∷ p) n v =
+    split (eqb (e .number) m)
+    (λ s. rw (s, delete) (λ i d. ⊎-elim (λ u. absurd (d (sym (u .0) ∙ eqb-true (e .number) m s))) (λ j. j) i))
+    (λ s. rw (s, delete) (λ i d. ⊎-elim (λ u. inl u) (λ j. inr (delete-sits m p n v j d)) i))
 
 pub sits-deleted : (m : ℕ) (p : List Entry) (low : ℕ) → Rising low (numbers p) → (n v : ℕ) → Sits (delete m p) n v → n ≡ m → ⊥
 unfolding delete numbers

@@ -3,10 +3,10 @@
 use mathlib.Core.Bool.{true}
 use mathlib.Core.Path.{_≡_, refl, sym, _∙_}
 use mathlib.Core.List.{List, [], _∷_}
-use mathlib.Core.Logic.{_⊎_, inl, inr}
+use mathlib.Core.Logic.{_⊎_, inl, inr, ⊎-elim}
 use Prim.Native.Nat.{ℕ, _^_, _≤_, _<_}
 use native.Mathlib.Omega.{arith}
-use borrow.Author.Tests.{ltb-true, ltb-false, eqb-true, eq-eqb}
+use borrow.Author.Tests.{ltb-true, ltb-false, eqb-true, eqb-false, eq-eqb}
 use lib.Dec.{eqb, ltb}
 use Rattle.ring.specs.Scheme.{Positions}
 use Rattle.ring.specs.Clockwise.{sooner, key}
@@ -16,6 +16,7 @@ use Rattle.rule.specs.Entry.{Entry, numbers, has, besideOf}
 use Rattle.rule.specs.Rule.{Ring, right}
 use Rattle.rule.specs.Rooms.{held, fill}
 use Rattle.rule.specs.Stability.{Rising, In, Sits}
+use Rattle.rule.proofs.Counts.{sits-above}
 use Rattle.rule.proofs.Nearer.{nearer}
 use Rattle.rule.proofs.Exists.{held-above}
 use Rattle.rule.proofs.Right.{Right, right-is, right-stable, held-small, length-numbers}
@@ -54,6 +55,14 @@ has-sits (e ∷ es) low n up h =
     split (eqb (e .number) n)
     (λ s. rw s (inl (eqb-true (e .number) n s, refl)))
     (λ s. rw s (inr (has-sits es (e .number) n (up .1) (rw s at h))))
+
+pub sits-beside : (es : List Entry) (low n v : ℕ) → Rising low (numbers es) → Sits es n v → besideOf es n ≡ v
+unfolding besideOf numbers
+sits-beside [] low n v up i = absurd i
+sits-beside (e ∷ es) low n v up i =
+    split (eqb (e .number) n)
+    (λ s. rw s (⊎-elim (λ u. u .1) (λ j. absurd (omega (arith, sits-above es (e .number) n v (up .1) j, eqb-true (e .number) n s))) i))
+    (λ s. rw s (⊎-elim (λ u. absurd (eqb-false (e .number) n s (u .0))) (λ j. sits-beside es (e .number) n v (up .1) j) i))
 
 -- ---- the demand
 

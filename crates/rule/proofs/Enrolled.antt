@@ -6,9 +6,9 @@ use mathlib.Core.Bool.{true, false}
 use mathlib.Core.Path.{_≡_, refl, sym, ap, _∙_}
 use mathlib.Core.List.{List}
 use mathlib.Core.Option.{some}
-use Prim.Native.Nat.{ℕ, zero, suc, _+_, _^_, _≤_, _<_}
+use Prim.Native.Nat.{ℕ, zero, suc, _^_, _≤_, _<_}
 use native.Mathlib.Omega.{arith}
-use borrow.Author.Tests.{ltb-true, ltb-false, eq-eqb}
+use borrow.Author.Tests.{ltb-true, ltb-false}
 use lib.Dec.{ltb}
 use lib.ListN.{length}
 use Rattle.ring.specs.Scheme.{Positions}
@@ -21,26 +21,15 @@ use Rattle.rule.specs.Rule.{Ring, hasRoom, placement}
 use Rattle.rule.specs.Walks.{satDown, greatest, stops, behind, walk, enrolled}
 use Rattle.rule.specs.Rooms.{held, fill, choose, orZero}
 use Rattle.rule.specs.Stability.{Rising, In, Sits, lower, Fair}
-use Rattle.rule.proofs.Counts.{at, at-not, at-yes, above-sits, sits-delete, sits-deleted, load-delete, lower-insert, lower-delete, length-insert, length-delete, above, above-fewer, count-length}
+use Rattle.rule.proofs.Counts.{at, length-insert, length-delete, above, above-fewer, count-length}
 use Rattle.rule.proofs.Sets.{rising-insert}
 use Rattle.rule.proofs.Exists.{left, fair-exists}
-use Rattle.rule.proofs.Enrolment.{Walk, walk-start, walk-evict, walk-settle}
+use Rattle.rule.proofs.Enrolment.{Walk, walk-start, walk-evict, walk-settle, evict-open}
 use Rattle.rule.proofs.Withdrawal.{load-held}
 use Rattle.rule.proofs.Orders.{Among, Sorted, first-some, first-found, first-least, order-in, in-order, order-sorted}
 use Rattle.rule.proofs.Placing.{among-held, held-among, placement-fill}
 use Rattle.rule.proofs.Searches.{greatest-sits, greatest-top, stops-lower, lower-stops, stops-full, behind-in, behind-sorted, in-behind}
 use Rattle.rule.proofs.Right.{Table, Right, right-stable, held-small, length-numbers}
-
--- all at a relay but the greatest are below it
-greatest-load : (es : List Entry) (low : ℕ) → Rising low (numbers es) → (g c : ℕ) → Sits es g c → ((n : ℕ) → Sits es n c → n ≤ g) → load es c ≤ lower es c g + 1
-greatest-load es low up g c i top =
-    let d : List Entry = delete g es in
-    let l : load d c ≤ lower d c g = split (ltb (lower d c g) (load d c))
-    (λ s.
-    let v : (m : ℕ) × Sits d m c × (g ≤ m) = above-sits d c g (ltb-true (lower d c g) (load d c) s) in
-    absurd (sits-deleted g es low up (v .0) c (v .1) (omega (arith, top (v .0) (sits-delete g es (v .0) c (v .1)), v .2))))
-    (λ s. ltb-false (lower d c g) (load d c) s) in
-    omega (arith, rw (eq-eqb c c refl) at (load-delete g c es low up i c), lower-delete g c es low up i c g, at-not c c g g (omega arith))
 
 module _ (p : Positions) (rs : List Entry) (t : Table rs) (p₀ : List Entry) (x : ℕ) where
   record Walking (steps : ℕ) (es : List Entry) (w : ℕ) (ahead : List Entry) : Type 0 where
@@ -113,34 +102,12 @@ module _ (p : Positions) (rs : List Entry) (t : Table rs) (p₀ : List Entry) (x
               inside = λ y j. order-in p g rs y (behind-in (e .number) (order p g rs) y j);
               sorted = behind-sorted (key p g) (e .number) (order p g rs) (order-sorted p g rs (t .small));
               open-ahead = λ y j k.
-                  let y-held : held rs (y .number) ≡ y .beside = among-held rs 0 (t .up) y j in
-                  let c : lower es′ (y .number) g ≡ at (e .number) (y .number) w g + lower (delete g es) (y .number) g = lower-insert w (e .number) (delete g es) (y .number) g in
-                  let d : lower es (y .number) g ≡ at (e .number) (y .number) g g + lower (delete g es) (y .number) g = lower-delete g (e .number) es 0 (i .walking .up) g-sits (y .number) g in
-                  let z : at (e .number) (y .number) g g ≡ 0 = at-not (e .number) (y .number) g g (omega arith) in
-                  let fair : key p g (e .number) ≤ key p g (y .number) = i .walking .stable g (e .number) g-sits .least (y .number) (omega arith) in
-                  let ne : e .number ≡ y .number → ⊥ = λ q. elsewhere y j k q in
-                  let lt : key p g (e .number) < key p g (y .number) = apart-less y j fair ne in
-                  in-behind (key p g) e (order p g rs) (order-sorted p g rs (t .small)) (in-order p g rs e there) y (in-order p g rs y j) lt;
+                  let o : (e .number ≡ y .number → ⊥) × (key p g (e .number) ≤ key p g (y .number)) × (lower es (y .number) w < held rs (y .number)) =
+                  evict-open (key p) rs p₀ x es w (i .walking) (e .number) g g-sits (full-there .1) (λ n v. greatest-top es (e .number) n v)
+                  (omega (arith, full-there .0, held-there)) (y .number) (omega (arith, among-held rs 0 (t .up) y j)) in
+                  in-behind (key p g) e (order p g rs) (order-sorted p g rs (t .small)) (in-order p g rs e there) y (in-order p g rs y j) (apart-less y j (o .1) (o .0));
             }
           where
-            elsewhere : (y : Entry) → Among y rs → lower es′ (y .number) g < y .beside → e .number ≡ y .number → ⊥
-            elsewhere y j k q =
-                let c : lower es′ (e .number) g ≡ at (e .number) (e .number) w g + lower (delete g es) (e .number) g = lower-insert w (e .number) (delete g es) (e .number) g in
-                let d : lower es (e .number) g ≡ at (e .number) (e .number) g g + lower (delete g es) (e .number) g = lower-delete g (e .number) es 0 (i .walking .up) g-sits (e .number) g in
-                omega (
-                  arith,
-                  c,
-                  d,
-                  at-yes (e .number) (e .number) w g refl (full-there .1),
-                  at-not (e .number) (e .number) g g (omega arith),
-                  greatest-load es 0 (i .walking .up) g (e .number) g-sits (λ n v. greatest-top es (e .number) n v),
-                  full-there .0,
-                  held-there,
-                  among-held rs 0 (t .up) y j,
-                  ap (held rs) q,
-                  ap (λ (n : ℕ). lower es′ n g) q,
-                )
-
             apart-less : (y : Entry) → Among y rs → key p g (e .number) ≤ key p g (y .number) → (e .number ≡ y .number → ⊥) → key p g (e .number) < key p g (y .number)
             apart-less y j le ne =
                 split (ltb (key p g (e .number)) (key p g (y .number)))

@@ -3,18 +3,29 @@
 use mathlib.Core.Path.{_≡_, refl, ap, _∙_}
 use mathlib.Core.List.{List}
 use mathlib.Core.Logic.{inl, inr, ⊎-elim}
-use Prim.Native.Nat.{ℕ, _≤_, _<_}
+use Prim.Native.Nat.{ℕ, _+_, _≤_, _<_}
 use native.Mathlib.Omega.{arith}
-use borrow.Author.Tests.{eqb-true, eqb-false}
-use lib.Dec.{eqb}
+use borrow.Author.Tests.{ltb-true, ltb-false, eqb-true, eqb-false, eq-eqb}
+use lib.Dec.{eqb, ltb}
 use Rattle.ring.proofs.Tests.{split}
 use Rattle.rule.specs.Entry.{Entry, numbers, insert, delete, load}
 use Rattle.rule.specs.Rooms.{held, fill}
-use Rattle.rule.specs.Stability.{Rising, In, Sits, Fair, Stable}
+use Rattle.rule.specs.Stability.{Rising, In, Sits, lower, Fair, Stable}
 use Rattle.rule.proofs.Chain.{settle, evict}
-use Rattle.rule.proofs.Counts.{sits-deleted}
+use Rattle.rule.proofs.Counts.{at, at-not, at-yes, lower-insert, lower-delete, lower-up, load-delete, above-sits, sits-delete, sits-deleted}
 use Rattle.rule.proofs.Sets.{in-sits, sits-in, in-insert, insert-in, in-delete, delete-in, rising-insert, rising-delete, rising-ext}
 use Rattle.rule.proofs.Stable.{fill-stable}
+
+-- all at a relay but the greatest are below it
+greatest-load : (es : List Entry) (low : ℕ) → Rising low (numbers es) → (g c : ℕ) → Sits es g c → ((n : ℕ) → Sits es n c → n ≤ g) → load es c ≤ lower es c g + 1
+greatest-load es low up g c i top =
+    let d : List Entry = delete g es in
+    let l : load d c ≤ lower d c g = split (ltb (lower d c g) (load d c))
+    (λ s.
+    let v : (m : ℕ) × Sits d m c × (g ≤ m) = above-sits d c g (ltb-true (lower d c g) (load d c) s) in
+    absurd (sits-deleted g es low up (v .0) c (v .1) (omega (arith, top (v .0) (sits-delete g es (v .0) c (v .1)), v .2))))
+    (λ s. ltb-false (lower d c g) (load d c) s) in
+    omega (arith, rw (eq-eqb c c refl) at (load-delete g c es low up i c), lower-delete g c es low up i c g, at-not c c g g (omega arith))
 
 -- p₀ is the table before, x the newcomer; w walks, and p is the table of all the others
 pub record Walk (key : ℕ → ℕ → ℕ) (rs p₀ : List Entry) (x : ℕ) (p : List Entry) (w : ℕ) : Type 0 where
@@ -47,6 +58,18 @@ module _ (key : ℕ → ℕ → ℕ) (rs p₀ : List Entry) (x : ℕ) where
     where
       gone : In g (numbers (delete g p)) → ⊥
       gone j = let v : (u : ℕ) × Sits (delete g p) g u = in-sits (delete g p) g j in sits-deleted g p 0 (k .up) g (v .0) (v .1) refl
+
+  -- what the lower numbers leave the one who gave way stands behind that relay in its order, and was open to the walker before it too
+  pub evict-open : (p : List Entry) (w : ℕ) → Walk key rs p₀ x p w → (c g : ℕ) → Sits p g c → w < g → ((n : ℕ) → Sits p n c → n ≤ g) → load p c ≡ held rs c
+      → (q : ℕ) → lower (insert w c (delete g p)) q g < held rs q → (c ≡ q → ⊥) × (key g c ≤ key g q) × (lower p q w < held rs q)
+  evict-open p w k c g sg l top full q h =
+      let a : lower (insert w c (delete g p)) q g ≡ at c q w g + lower (delete g p) q g = lower-insert w c (delete g p) q g in
+      let b : lower p q g ≡ at c q g g + lower (delete g p) q g = lower-delete g c p 0 (k .up) sg q g in
+      let z : at c q g g ≡ 0 = at-not c q g g (omega arith) in (
+        λ e. omega (arith, at-yes c q w g e l, greatest-load p 0 (k .up) g c sg top, ap (λ (n : ℕ). lower p n g) e, ap (held rs) e),
+        k .stable g c sg .least q (omega arith),
+        omega (arith, lower-up p q w g (omega arith)),
+      )
 
   -- the walker settles: the table is the rule's, for the old tablets and the newcomer
   pub walk-settle : (Ok : ℕ → Type 0) (apart : (t r q : ℕ) → Ok r → Ok q → key t r ≡ key t q → r ≡ q) → ((r : ℕ) → 0 < held rs r → Ok r)

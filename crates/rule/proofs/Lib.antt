@@ -4,6 +4,7 @@ pub mod Rooms
 pub mod Sets
 pub mod Counts
 pub mod Stable
+pub mod Puts
 pub mod Exists
 pub mod Chain
 pub mod Enrolment
@@ -16,7 +17,11 @@ pub mod Demand3
 pub mod Searches
 pub mod Enrolled
 pub mod Withdrawn
+pub mod Turning
+pub mod Holing
 pub mod Accepted
 pub mod History
 pub mod Tallies
 pub mod Moves
+pub mod Listing
+pub mod Outcomes

@@ -4,18 +4,18 @@
 --   moved-rising   by rising number, so each once
 --   home-nearest   no relay stands ahead of the home
 -- Assumes nothing.
-use mathlib.Core.Bool.{Bool, true, not, _&&_}
+use mathlib.Core.Bool.{Bool, true, false, not, _&&_}
 use mathlib.Core.Path.{_≡_, refl, sym, _∙_}
 use mathlib.Core.List.{List, [], _∷_}
 use mathlib.Core.Logic.{_⊎_, inl, inr, ⊎-elim}
 use mathlib.Core.Option.{some}
 use Prim.Native.Nat.{ℕ, _≤_}
 use native.Mathlib.Omega.{arith}
-use borrow.Author.Tests.{eqb-false, ne-eqb}
+use borrow.Author.Tests.{eqb-false, eq-eqb, ne-eqb}
 use lib.Dec.{eqb}
 use Rattle.ring.specs.Scheme.{Positions}
 use Rattle.ring.specs.Clockwise.{key}
-use Rattle.ring.proofs.Tests.{split, and-left, and-right, true-false}
+use Rattle.ring.proofs.Tests.{split, and-false, and-left, and-right, true-false}
 use Rattle.rule.specs.declared.Move.{Move}
 use Rattle.rule.specs.Entry.{Entry, numbers, has, besideOf}
 use Rattle.rule.specs.Order.{order, home}
@@ -91,6 +91,15 @@ moved-rising old (e ∷ es) low up =
     split (moves? old e)
     (λ s. rw (s, moved) (up .0, moved-rising old es (e .number) (up .1)))
     (λ s. rw (s, moved) (rising-low (tabletsOf (moved old es)) (e .number) low (omega (arith, up .0)) (moved-rising old es (e .number) (up .1))))
+
+-- where everybody sits as before nobody moved
+pub moved-none : (old es : List Entry) → ((n v : ℕ) → Sits es n v → besideOf old n ≡ v) → moved old es ≡ []
+unfolding moved
+moved-none old [] f = refl
+moved-none old (e ∷ es) f =
+    let h : besideOf old (e .number) ≡ e .beside = f (e .number) (e .beside) (inl (refl, refl)) in
+    let d : moves? old e ≡ false = rw (eq-eqb (besideOf old (e .number)) (e .beside) h) (and-false (has old (e .number))) in
+    rw (d, moved) (moved-none old es (λ n v i. f n v (inr i)))
 
 -- ---- the home
 

@@ -87,7 +87,7 @@ abbrev pub Small : List Entry → Type 0
 Small l = (x : Entry) → Among x l → x .number < 2 ^ 32
 
 module _ (p : Positions) (t : ℕ) where
-  in-queued : (e : Entry) (l : List Entry) (x : Entry) → Among x (queued p t e l) → Among x (e ∷ l)
+  pub in-queued : (e : Entry) (l : List Entry) (x : Entry) → Among x (queued p t e l) → Among x (e ∷ l)
   unfolding queued
   in-queued e [] x = λ i. i
   in-queued e (y ∷ l) x =

@@ -12,7 +12,7 @@ use lib.ListN.{length}
 use Rattle.ring.proofs.Tests.{split}
 use Rattle.rule.specs.Entry.{Entry, total, numbers, entry}
 use Rattle.rule.specs.Rooms.{held, choose, orZero, less, fill}
-use Rattle.rule.specs.Stability.{Rising, bit, lower, Sits, Fair, Stable}
+use Rattle.rule.specs.Stability.{Rising, bit, lower, Fair, Stable}
 use Rattle.rule.proofs.Counts.{sits-above}
 use Rattle.rule.proofs.Rooms.{held-less, Best, choose-best, total-some, total-less}
 

@@ -6,6 +6,7 @@ pub mod Stability
 pub mod Refusals
 pub mod Calls
 pub mod Walks
+pub mod Sweeps
 pub mod Sheet
 pub mod Balance
 pub mod Tally
