@@ -1,0 +1,12 @@
+-- `lent::relay_places` meets its contract by computation. Assumes nothing.
+use mathlib.Core.Path.{refl}
+use Rattle.lent.specs.Table.{relayPlaces}
+use Rattle.lent.proofs.relay_places.Statement.{statement}
+use Rattle.lent.proofs.relay_places.Tie as tie
+
+returns : tie.Need-returns
+unfolding relayPlaces
+returns c = refl
+
+pub relay-places-spec : {M : Type 1} → statement M
+relay-places-spec = tie.close (tie.spec returns)

@@ -1,0 +1,11 @@
+-- What lent numbers mean, each file above those that it cites.
+pub mod Places
+pub mod More
+pub mod Edits
+pub mod Words
+pub mod Shapes
+pub mod Keys
+pub mod Choice
+pub mod Run
+pub mod Placed
+pub mod Right

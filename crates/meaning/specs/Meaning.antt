@@ -1,0 +1,52 @@
+-- What the lent numbers mean (document 01, "The lent tables"): the entries of the tables, and how they are lent. Assumes nothing.
+use mathlib.Core.Bool.{Bool, _&&_, _||_}
+use mathlib.Core.List.{List, [], _∷_, _++_}
+use Prim.Native.Nat.{ℕ, zero, suc, _/_, _^_, _<_}
+use lib.Dec.{ltb}
+use lib.ListN.{length, getD}
+use Rattle.ring.specs.Scheme.{known}
+use Rattle.rule.specs.Entry.{Entry, entry}
+use Rattle.rule.specs.Rule.{Ring}
+use Rattle.rule.specs.Calls.{Lent}
+use Rattle.lent.specs.Table.{relayPlaces, relayNumber, relayLimit, tabletPlaces, tabletNumber, tabletRelay}
+use Rattle.lent.specs.Shape.{all, unused, relaysUsed, tabletsUsed, relayFits, tabletFits}
+
+-- the first n places of a table as entries: the number there, and what stands beside it
+unfoldable pub places : (ℕ → ℕ) → (ℕ → ℕ) → ℕ → List Entry
+places number beside zero = []
+places number beside (suc i) = places number beside i ++ (entry (number i) (beside i) ∷ [])
+
+abbrev pub relaysIn : List ℕ → ℕ → List Entry
+relaysIn rs n = places (relayNumber rs) (relayLimit rs) n
+
+abbrev pub tabletsIn : List ℕ → ℕ → List Entry
+tabletsIn ts m = places (tabletNumber ts) (tabletRelay ts) m
+
+-- entries come first, so they are as many of the first places as have a number
+unfoldable pub ringOf : List ℕ → List ℕ → Ring
+ringOf rs ts = record { relays = relaysIn rs (relaysUsed rs); tablets = tabletsIn ts (tabletsUsed ts) }
+
+-- every place behind the first n is zeros
+unfoldable pub restUnused : (ℕ → ℕ) → (ℕ → ℕ) → ℕ → ℕ → Bool
+restUnused number beside n most = all (λ i. ltb i n || unused (number i) (beside i)) most
+
+-- whole places and not too many, entries first and zeros behind them
+unfoldable pub fitTables : List ℕ → List ℕ → Bool
+fitTables rs ts =
+    relayFits rs && (tabletFits ts && (restUnused (relayNumber rs) (relayLimit rs) (relaysUsed rs) (relayPlaces rs)
+    && restUnused (tabletNumber ts) (tabletRelay ts) (tabletsUsed ts) (tabletPlaces ts)))
+
+-- a move takes three numbers of the list
+unfoldable pub lentOf : ℕ → List ℕ → List ℕ → List ℕ → Lent
+lentOf scheme rs ts ms =
+    record { known = known scheme; fit = fitTables rs ts; relayPlaces = relayPlaces rs; tabletPlaces = tabletPlaces ts; movePlaces = length ms / 3 }
+
+-- ---- for the loops
+
+-- every number of a lent slice is a 32-bit number
+pub record Words (l : List ℕ) : Type 0 where
+  pub fit : (i : ℕ) → getD l i 0 < 2 ^ 32
+
+-- the relays of the first n places, with what room an array gives them
+unfoldable pub roomed : List ℕ → List ℕ → ℕ → List Entry
+roomed rs room n = places (relayNumber rs) (λ i. getD room i 0) n

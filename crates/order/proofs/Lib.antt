@@ -1,0 +1,4 @@
+pub mod Reorder
+pub mod Sinking
+pub mod Keys
+pub mod Home

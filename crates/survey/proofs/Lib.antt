@@ -1,0 +1,4 @@
+pub mod Leading
+pub mod Shutting
+pub mod Led
+pub mod Seats

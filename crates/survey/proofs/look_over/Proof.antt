@@ -1,0 +1,184 @@
+-- `survey::look_over` meets its contract. The invariant: the first j tablets are placed by the rule and surveyed, and a walk to the last
+-- position, or past it, may begin at h. Assumes nothing.
+use mathlib.Core.Bool.{Bool, true, false, false≢true}
+use mathlib.Core.List.{List}
+use mathlib.Core.Path.{_≡_, refl, sym, ap, _∙_, subst}
+use Prim.Native.Nat.{ℕ, _-_, _≤_, _<_}
+use denote.Ref.{now}
+use native.Mathlib.Omega.{arith}
+use borrow.Author.Tests.{not-true, not-false, ltb-true}
+use lib.Dec.{ltb, eqb}
+use lib.ListN.{getD}
+use Rattle.ring.specs.Scheme.{positions}
+use Rattle.lent.specs.Table.{mostTablets, tabletNumber}
+use Rattle.lent.specs.Shape.{all}
+use Rattle.lent.specs.Placing.{relayFor, placedAt, placed}
+use Rattle.lent.proofs.Loops.{at-end, all-more, all-false, both-left}
+use Rattle.order.specs.Keys.{Ordered}
+use Rattle.order.specs.Home.{keyAt, Home, Begins}
+use Rattle.order.proofs.Home.{begins-none, home-at}
+use Rattle.survey.specs.Seats.{Surveyed}
+use Rattle.survey.proofs.Seats.{surveyed-none, surveyed-more, surveyed-end, Seat, seat-below, seat-takes, seat-right}
+use Rattle.survey.proofs.look_over.Statement.{statement}
+use Rattle.survey.proofs.look_over.Tie as tie
+
+abbrev Inv-loop : tie.InvT-loop
+Inv-loop scheme relays tablets n m keys start room₀ next₀ last₀ home₀ slot₀ right₀ from₀ h₀ j₀ room next last home slot right from h j =
+    (j ≤ m) × (right ≡ true) × (true ≡ placed (positions scheme) relays tablets n j) × Begins keys n (keyAt (from .0)) h × Surveyed (positions scheme) relays tablets n j keys room next last home slot
+
+abbrev μ-loop : tie.MeasureT-loop
+μ-loop scheme relays tablets n m keys start room₀ next₀ last₀ home₀ slot₀ right₀ from₀ h₀ j₀ room next last home slot right from h j = m - j
+
+-- tablet j's number is within the table
+there : (c : tie.In-loop Inv-loop μ-loop) → c .before .loop .j < mostTablets
+there c = omega (arith, c .loop-test .taken, c .before .before .before .before .before .before .before .before .before .before .before .before .before .pre .1 .few)
+
+-- where tablet j stands
+stands : (c : tie.After-tablet-at Inv-loop μ-loop) → (let s = c .before .before .before .before .before .before .before .before .before .before .before .before .before .before .before .args in c .tablet-at .result .0 ≡ positions (s .scheme) .tabletAt (tabletNumber (now (s .tablets)) (c .before .before .before .loop .j)))
+stands c = c .tablet-at .ensures ∙ ap (positions _ .tabletAt) (c .before .tablet-number .ensures)
+
+-- and its seat
+seat : (c : tie.After-slot-relay Inv-loop μ-loop)
+    → (let s = c .before .before .before .before .before .before .before .before .before .before .before .before .before .before .before .before .before .before .before .before .before .before .args in let l = c .before .before .before .before .before .before .before .before .before .before .loop in Seat (positions (s .scheme)) (now (s .relays)) (now (s .tablets)) (s .n) (l .j) (c .before .before .before .before .before .before .before .before .before .before .before .before .before .before .before .before .before .ring-order .result) (l .room) (l .next) (l .last) (l .home) (l .slot) (c .before .before .before .before .home-of .result) (c .before .before .led-to .result) (c .slot-relay .result))
+seat c =
+    let e = stands (c .before .before .before .before .before .before .before) in
+    record {
+      survey = c .before .before .before .before .before .before .before .before .before .before .loop .inv .4;
+      few = c .before .before .before .before .before .before .before .before .before .before .before .before .before .before .before .before .before .before .before .before .before .before .pre .0 .few;
+      small = rw (← e) (omega (arith, c .before .before .before .before .before .before .before .tablet-at .ok));
+      from = home-at e (c .before .before .before .before .home-of .ensures);
+      led-to = c .before .before .led-to .ensures .0;
+      relay = c .slot-relay .ensures .0;
+    }
+
+-- the relay written beside it is the rule's, or not
+beside : (c : tie.After-stands-beside Inv-loop μ-loop)
+    → (let s = c .before .before .before .before .before .before .before .before .before .before .before .before .before .before .before .before .before .before .before .before .before .before .before .before .args in c .stands-beside .result ≡ placedAt (positions (s .scheme)) (now (s .relays)) (now (s .tablets)) (s .n) (c .before .before .before .before .before .before .before .before .before .before .before .before .loop .j))
+beside c = seat-right (seat (c .before .before)) (c .stands-beside .ensures)
+
+-- where it is, the relay has room
+opens : (c : tie.Else1 Inv-loop μ-loop) → 0 < getD (c .before .before .before .before .before .before .before .before .before .before .before .before .before .loop .room) (c .before .before .before .slot-relay .result) 0
+opens c = ltb-true _ _ (both-left (ltb 0 (getD (c .before .before .before .before .before .before .before .before .before .before .before .before .before .loop .room) (c .before .before .before .slot-relay .result) 0)) _ (sym (c .before .stands-beside .ensures) ∙ not-false _ (c .if1 .left)))
+
+relay-positions-requires : tie.Need-relay-positions-requires Inv-loop μ-loop
+relay-positions-requires c κs = omega arith
+
+ring-order-requires : tie.Need-ring-order-requires Inv-loop μ-loop
+ring-order-requires c κs = c .before .before .before .before .pre .0 .few
+
+starts-requires : tie.Need-starts-requires Inv-loop μ-loop
+starts-requires c κs = (c .before .before .before .before .before .before .pre .0 .few, c .before .ring-order .ensures .rises)
+
+relay-limits-requires : tie.Need-relay-limits-requires Inv-loop μ-loop
+relay-limits-requires c κs = omega arith
+
+first-row-requires : tie.Need-first-row-requires Inv-loop μ-loop
+first-row-requires c κs = c .before .before .before .before .before .before .before .before .before .before .pre .0 .few
+
+loop-holds : tie.Need-loop-holds Inv-loop μ-loop
+unfolding placed all
+loop-holds c =
+    (omega arith, refl, refl, begins-none _ _ _, surveyed-none (c .before .before .before .before .before .before .before .before .relay-positions .ensures) (c .before .before .before .before .before .before .ring-order .ensures) (c .before .before .before .relay-limits .ensures) (c .first-row .ensures) refl refl)
+
+tablet-number-requires : tie.Need-tablet-number-requires Inv-loop μ-loop
+tablet-number-requires c κs = omega (arith, c .loop-test .taken, c .before .before .before .before .before .before .before .before .before .before .before .before .before .pre .1 .there)
+
+tablet-at-requires : tie.Need-tablet-at-requires Inv-loop μ-loop
+tablet-at-requires c κs = tt
+
+home-of-requires : tie.Need-home-of-requires Inv-loop μ-loop
+home-of-requires c κs = (c .before .before .before .before .before .before .before .before .before .before .before .before .before .before .before .before .before .pre .0 .few, c .before .before .before .before .before .before .before .before .before .before .before .before .ring-order .ensures .rises, c .before .before .before .before .before .before .before .before .before .before .starts .ensures, c .before .before .before .before .before .loop .inv .3)
+
+led-to-requires : tie.Need-led-to-requires Inv-loop μ-loop
+led-to-requires c κs = tt
+
+slot-relay-requires : tie.Need-slot-relay-requires Inv-loop μ-loop
+slot-relay-requires c κs = c .before .led-to .ensures .1
+
+stands-beside-requires : tie.Need-stands-beside-requires Inv-loop μ-loop
+stands-beside-requires c κs =
+    let d = c .before in
+    (d .slot-relay .ensures .1, λ w. omega (arith, seat-below (seat d) w, d .before .before .before .before .before .before .before .before .before .before .before .before .before .before .before .before .before .before .before .before .before .before .pre .0 .there), omega (arith, d .before .before .before .before .before .before .before .before .before .loop-test .taken, d .before .before .before .before .before .before .before .before .before .before .before .before .before .before .before .before .before .before .before .before .before .before .pre .1 .there))
+
+cast-home : tie.Need-cast-home Inv-loop μ-loop
+cast-home c = omega arith
+
+array-write-home : tie.Need-array-write-home Inv-loop μ-loop
+array-write-home c = there (c .before .before .before .before .before .before .before .before .before .before .before .before)
+
+cast-slot : tie.Need-cast-slot Inv-loop μ-loop
+cast-slot c = omega (arith, c .before .before .before .before .before .led-to .ensures .1)
+
+array-write-slot : tie.Need-array-write-slot Inv-loop μ-loop
+array-write-slot c = there (c .before .before .before .before .before .before .before .before .before .before .before .before)
+
+take-requires : tie.Need-take-requires Inv-loop μ-loop
+take-requires c κs = seat-takes (seat (c .before .before .before .before .before .before)) (opens (c .before .before .before))
+
+add-j : tie.Need-add-j Inv-loop μ-loop
+add-j c = omega (arith, there (c .before .before .before .before .before .before .before .before .before .before .before .before .before .before .before .before))
+
+cast-last : tie.Need-cast-last Inv-loop μ-loop
+cast-last c = omega (arith, there (c .before .before .before .before .before .before .before .before .before .before .before .before .before .before .before .before))
+
+mul-last : tie.Need-mul-last Inv-loop μ-loop
+mul-last c = omega (arith, c .before .before .before .before .before .before .before .slot-relay .ensures .1)
+
+array-write-last : tie.Need-array-write-last Inv-loop μ-loop
+array-write-last c = omega (arith, c .before .before .before .before .before .before .before .slot-relay .ensures .1)
+
+loop-less : tie.Need-loop-less Inv-loop μ-loop
+loop-less c = omega (arith, c .before .before .before .before .before .before .before .before .before .before .before .before .before .before .before .before .loop-test .taken)
+
+loop-again : tie.Need-loop-again Inv-loop μ-loop
+unfolding placed
+loop-again c =
+    let r = not-false _ (c .before .before .before .before .if1 .left) in
+    let s = seat (c .before .before .before .before .before .before .before) in
+    let e = c .take .ensures in
+    (omega (arith, c .before .before .before .before .before .before .before .before .before .before .before .before .before .before .before .before .loop-test .taken), r, all-more (placedAt _ _ _ _) (c .before .before .before .before .before .before .before .before .before .before .before .before .before .before .before .before .before .loop .inv .2) (sym (beside (c .before .before .before .before .before)) ∙ r), c .before .before .before .before .before .before .before .before .before .before .before .home-of .ensures .begins, surveyed-more s (opens (c .before .before .before .before)) (there (c .before .before .before .before .before .before .before .before .before .before .before .before .before .before .before .before)) (e .0) (e .1))
+
+returns : tie.Need-returns Inv-loop μ-loop
+returns c =
+    let v = c .before .loop .inv in
+    let l = c .loop-test .left in
+    (v .1 ∙ at-end (placed _ _ _ _) (v .0) l (v .2), λ _. surveyed-end (v .0) l (v .4))
+
+returns-2 : tie.Need-returns-2 Inv-loop μ-loop
+unfolding placed
+returns-2 c =
+    let r = not-true _ (c .if1 .taken) in
+    let e = beside (c .before) in
+    (r ∙ all-false (placedAt _ _ _ _) _ (c .before .before .before .before .before .before .before .before .before .before .before .before .loop-test .taken) (sym e ∙ r), λ t. absurd (false≢true (sym r ∙ t)))
+
+pub look-over-spec : {M : Type 1} → statement M
+look-over-spec =
+    tie.close
+    (tie.spec
+    Inv-loop
+    μ-loop
+    relay-positions-requires
+    ring-order-requires
+    starts-requires
+    relay-limits-requires
+    first-row-requires
+    loop-holds
+    tablet-number-requires
+    tablet-at-requires
+    home-of-requires
+    led-to-requires
+    slot-relay-requires
+    stands-beside-requires
+    cast-home
+    array-write-home
+    cast-slot
+    array-write-slot
+    take-requires
+    add-j
+    cast-last
+    mul-last
+    array-write-last
+    loop-less
+    loop-again
+    returns
+    returns-2)
