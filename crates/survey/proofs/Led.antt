@@ -28,7 +28,7 @@ module _ (q to i : ℕ) (hq : q < 2 ^ 32) (ht : to < 2 ^ 32) where
 
 module _ {position keys : List ℕ} {n q h : ℕ} (o : Ordered position n keys) (hn : n ≤ mostRelays) (hq : q < 2 ^ 32) (b : Home keys n (keyAt q) h) where
   -- the key, for a tablet at q, of the relay at slot l
-  keyOf : ℕ → ℕ
+  unfoldable pub keyOf : ℕ → ℕ
   keyOf l = keyFrom q (getD position (slotRelay keys l) 0) (slotRelay keys l)
 
   onward : (l : ℕ) → l < n → h ≤ l → keyOf l + keyAt q ≡ getD keys l 0
@@ -54,7 +54,7 @@ module _ {position keys : List ℕ} {n q h : ℕ} (o : Ordered position n keys) 
       omega (arith, o .holds .key l c, o .holds .small (slotRelay keys l) i)
 
   -- who comes no later has no greater key
-  nearer : (k l : ℕ) → k < n → l < n → Ahead h k l → keyOf k ≤ keyOf l
+  pub nearer : (k l : ℕ) → k < n → l < n → Ahead h k l → keyOf k ≤ keyOf l
   nearer k l c d (both a e) = omega (arith, onward k c a, onward l d (omega arith), rising-le (o .rises) k l e d)
   nearer k l c d (turn a e) = omega (arith, onward k c a, round l d e, small k c)
   nearer k l c d (past a e) = omega (arith, round k c (omega arith), round l d e, rising-le (o .rises) k l a d)

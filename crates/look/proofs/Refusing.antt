@@ -1,0 +1,135 @@
+-- From what a look found to the outcome of a call: which refusal it meets, one law for each, and what then is promised.
+--   look-refused, number-refused, limits-refused, list-refused, all-passed   the refusal
+--   refused-answers, accepted-answers                                      the promise
+-- Assumes nothing.
+use mathlib.Core.Bool.{Bool, true, false, not, _&&_}
+use mathlib.Core.Path.{_≡_, refl, sym, ap, _∙_}
+use mathlib.Core.List.{List, [], _∷_}
+use Prim.Native.Nat.{ℕ, _≤_, _<_}
+use borrow.Author.Tests.{lt-ltb, le-ltb}
+use lib.Dec.{ltb}
+use lib.ListN.{length}
+use Rattle.ring.specs.Scheme.{known, Positions, positions}
+use Rattle.ring.proofs.Tests.{split, true-false}
+use Rattle.rule.specs.declared.Refusal.{Refusal}
+use Rattle.rule.specs.declared.Refusal.the-variants.{Done, SchemeUnknown, TablesNotRight, LimitsTooSmall, MoveListTooShort}
+use Rattle.rule.specs.declared.Call.{Call}
+use Rattle.rule.specs.declared.Reply.{Reply}
+use Rattle.rule.specs.Entry.{total}
+use Rattle.rule.specs.Rule as Rule
+use Rattle.rule.specs.Rule.{Ring}
+use Rattle.rule.specs.Refusals.{isDone, refusedBy, Bar, bar, firstBar}
+use Rattle.rule.specs.Calls.{Lent, Outcome, edited, moves, wrongNumbers, refusal, relayOf, passed, accepted, declined, outcome}
+use Rattle.rule.specs.Calls as Calls
+use Rattle.rule.proofs.Accepted.{outcome-accepted, outcome-declined}
+use Rattle.lent.specs.Placing.{right}
+use Rattle.meaning.specs.Meaning.{Words, relaysIn, tabletsIn, ringOf, fitTables, lentOf}
+use Rattle.meaning.proofs.Right.{Rises, right-meaning, right-rises}
+use Rattle.survey.specs.declared.Survey.{Survey}
+use Rattle.write.specs.Tables.{relayTable, tabletTable, listed}
+use Rattle.look.specs.Promise.{outcomeOf, After, written, unchanged, settled, after, Answers}
+use Rattle.look.specs.Start.{checked, Start}
+
+-- ---- what is left of an outcome
+
+settled-accepted : (rs ts ms : List ℕ) (p : Positions) (g : Ring) (c : Call) → settled rs ts ms (accepted p g c) ≡ written rs ts ms (accepted p g c)
+unfolding settled accepted isDone
+settled-accepted rs ts ms p g c = refl
+
+settled-declined : (rs ts ms : List ℕ) (g : Ring) (r : Refusal) → isDone r ≡ false → settled rs ts ms (declined g r) ≡ unchanged rs ts ms (declined g r)
+unfolding settled declined
+settled-declined rs ts ms g r h = rw (h, settled)
+
+-- ---- the tables that a look found right
+
+module _ {s : ℕ} {rs ts : List ℕ} {n m : ℕ} {v : Survey} (b : Start s rs ts n m v) where
+  pub start-rises : Rises (positions s) rs ts n m
+  start-rises = rw (b .relays, b .tablets) (right-rises (positions s) rs ts (b .relayWords) (b .tabletWords) (b .right))
+
+  -- the ring by how many relays and tablets were found
+  abbrev pub found : Ring
+  found = record { relays = relaysIn rs n; tablets = tabletsIn ts m }
+
+  pub start-ring : ringOf rs ts ≡ found
+  unfolding ringOf
+  start-ring = rw (b .relays, b .tablets)
+
+  tables-right : (fitTables rs ts && Rule.right (positions s) (ringOf rs ts)) ≡ true
+  tables-right = sym (right-meaning (positions s) rs ts (b .relayWords) (b .tabletWords)) ∙ b .right
+
+-- ---- refusals
+
+module _ (s : ℕ) (rs ts ms : List ℕ) (c : Call) where
+  abbrev lent : Lent
+  lent = lentOf s rs ts ms
+
+  abbrev ring : Ring
+  ring = ringOf rs ts
+
+  abbrev why : Refusal
+  why = refusal (positions s) lent ring c
+
+  -- what comes behind the first two
+  abbrev later : List Bar
+  later =
+      bar (not (isDone (firstBar (wrongNumbers lent ring c)))) (firstBar (wrongNumbers lent ring c))
+      ∷ bar (ltb (total (edited ring c .relays)) (length (edited ring c .tablets))) LimitsTooSmall
+      ∷ bar (ltb (lent .movePlaces) (length (moves (positions s) ring c))) MoveListTooShort ∷ []
+
+  first-two : Words rs → Words ts → why ≡ firstBar (bar (not (known s)) SchemeUnknown ∷ bar (not (right (positions s) rs ts)) TablesNotRight ∷ later)
+  unfolding refusal lentOf
+  first-two wr wt = ap (λ (z : Bool). firstBar (bar (not (known s)) SchemeUnknown ∷ bar (not z) TablesNotRight ∷ later)) (sym (right-meaning (positions s) rs ts wr wt))
+
+  pub look-refused : Words rs → Words ts → (r : Refusal) → checked s rs ts ≡ r → isDone r ≡ false → why ≡ r
+  unfolding checked firstBar isDone
+  look-refused wr wt r e h =
+      first-two wr wt
+      ∙ split (known s)
+      (λ k. split (right (positions s) rs ts)
+      (λ t. absurd (true-false (done-false (rw (k, t) at e) h)))
+      (λ t. rw (k, t) (rw (k, t) at e)))
+      (λ k. rw k (rw k at e))
+    where
+      done-false : Done ≡ r → isDone r ≡ false → true ≡ false
+      done-false u h = ap isDone u ∙ h
+
+  module _ {n m : ℕ} {v : Survey} (b : Start s rs ts n m v) where
+    past-two : why ≡ firstBar later
+    unfolding firstBar
+    past-two = first-two (b .relayWords) (b .tabletWords) ∙ rw (b .known, b .right)
+
+    pub number-refused : (r : Refusal) → firstBar (wrongNumbers lent ring c) ≡ r → isDone r ≡ false → why ≡ r
+    unfolding firstBar
+    number-refused r e h = past-two ∙ rw (e, h)
+
+    module _ (numbers-fine : isDone (firstBar (wrongNumbers lent ring c)) ≡ true) where
+      pub limits-refused : total (edited ring c .relays) < length (edited ring c .tablets) → why ≡ LimitsTooSmall
+      unfolding firstBar
+      limits-refused h = past-two ∙ rw (numbers-fine, lt-ltb _ _ h)
+
+      module _ (enough : length (edited ring c .tablets) ≤ total (edited ring c .relays)) where
+        pub list-refused : lent .movePlaces < length (moves (positions s) ring c) → why ≡ MoveListTooShort
+        unfolding firstBar
+        list-refused h = past-two ∙ rw (numbers-fine, le-ltb _ _ enough, lt-ltb _ _ h)
+
+        pub all-passed : length (moves (positions s) ring c) ≤ lent .movePlaces → why ≡ Done
+        unfolding firstBar
+        all-passed h = past-two ∙ rw (numbers-fine, le-ltb _ _ enough, le-ltb _ _ h)
+
+  -- ---- the promise
+
+  pub refused-answers : (r : Refusal) → why ≡ r → isDone r ≡ false → (reply : Reply) → reply ≡ refusedBy r → Answers (after s rs ts ms c) reply rs ts ms
+  unfolding after outcomeOf
+  refused-answers r e h reply er =
+      let o : outcome (positions s) lent ring c ≡ declined ring r = outcome-declined (positions s) lent ring c (ap isDone e ∙ h) ∙ ap (declined ring) e in
+      rw (o, settled-declined rs ts ms ring r h)
+      (unfold unchanged declined in (record { reply = er; relays = refl; tablets = refl; moves = refl }))
+
+  pub accepted-answers : why ≡ Done → (reply : Reply) (rs′ ts′ ms′ : List ℕ) → reply ≡ accepted (positions s) ring c .reply
+      → rs′ ≡ relayTable (length rs) (Calls.after (positions s) ring c) → ts′ ≡ tabletTable (length ts) (Calls.after (positions s) ring c)
+      → ms′ ≡ listed (moves (positions s) ring c) ms → Answers (after s rs ts ms c) reply rs′ ts′ ms′
+  unfolding after outcomeOf isDone
+  accepted-answers e reply rs′ ts′ ms′ er ers ets ems =
+      let o : outcome (positions s) lent ring c ≡ accepted (positions s) ring c = outcome-accepted (positions s) lent ring c (ap isDone e) in
+      rw (o, settled-accepted rs ts ms (positions s) ring c)
+      (unfold written accepted in (record { reply = er; relays = ers; tablets = ets; moves = ems }))

@@ -1,0 +1,32 @@
+-- What every call starts from: the first two refusals, and what the check of right tables has found. Assumes nothing.
+use mathlib.Core.Bool.{Bool, true, not}
+use mathlib.Core.List.{List, [], _∷_}
+use mathlib.Core.Path.{_≡_}
+use Prim.Native.Nat.{ℕ, _≤_, _<_, _^_}
+use Rattle.ring.specs.Scheme.{known, positions}
+use Rattle.rule.specs.declared.Refusal.{Refusal}
+use Rattle.rule.specs.declared.Refusal.the-variants.{SchemeUnknown, TablesNotRight}
+use Rattle.rule.specs.Refusals.{isDone, bar, firstBar}
+use Rattle.lent.specs.Placing.{right}
+use Rattle.lent.specs.Shape.{relaysUsed, tabletsUsed}
+use Rattle.survey.specs.declared.Survey.{Survey}
+use Rattle.survey.specs.Seats.{Surveyed}
+use Rattle.meaning.specs.Meaning.{Words}
+use Rattle.look.specs.declared.Looked.{Looked}
+
+unfoldable pub checked : ℕ → List ℕ → List ℕ → Refusal
+checked scheme rs ts = firstBar (bar (not (known scheme)) SchemeUnknown ∷ bar (not (right (positions scheme) rs ts)) TablesNotRight ∷ [])
+
+-- the scheme is known and the tables are right: n relays and m tablets, and what was learnt of them
+pub record Start (scheme : ℕ) (rs ts : List ℕ) (n m : ℕ) (s : Survey) : Type 0 where
+  pub known : known scheme ≡ true
+  pub right : right (positions scheme) rs ts ≡ true
+  pub relays : n ≡ relaysUsed rs
+  pub tablets : m ≡ tabletsUsed ts
+  pub surveyed : Surveyed (positions scheme) rs ts n m (s .keys) (s .room) (s .next) (s .last) (s .home) (s .slot)
+  pub relayWords : Words rs
+  pub tabletWords : Words ts
+
+pub record Looks (scheme : ℕ) (rs ts : List ℕ) (l : Looked) : Type 0 where
+  pub refusal : l .refusal ≡ checked scheme rs ts
+  pub start : isDone (l .refusal) ≡ true → Start scheme rs ts (l .n) (l .m) (l .survey)

@@ -1,0 +1,5 @@
+pub mod Tables
+pub mod Wrote
+pub mod Places
+pub mod Listing
+pub mod Counted

@@ -1,0 +1,1 @@
+// Writing into the lent tables and lists, once a call is accepted.
