@@ -90,6 +90,12 @@ pub turn-more : (ts : List Entry) (s : Turn) (c : Entry) (cs : List Entry) → t
 unfolding turn
 turn-more ts s c cs = refl
 
+-- one relay more at the end
+pub turn-last : (ts : List Entry) (s : Turn) (cs : List Entry) (c : Entry) → turn ts s (cs ++ (c ∷ [])) ≡ turnAt ts (turn ts s cs) c
+unfolding turn
+turn-last ts s [] c = refl
+turn-last ts s (e ∷ cs) c = turn-last ts (turnAt ts s e) cs c
+
 -- no number stands twice
 abbrev pub Distinct : List Entry → Type 0
 Distinct [] = Unit {0}

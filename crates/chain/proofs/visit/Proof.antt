@@ -1,0 +1,28 @@
+-- `chain::visit` meets its contract: whoever gives way is noted, and else nothing changes.
+-- Assumes nothing.
+use mathlib.Core.Path.{refl, sym, _∙_}
+use native.Mathlib.Omega.{arith}
+use Rattle.chain.proofs.Keeping.{way-some, visited-yes, visited-no}
+use borrow.Author.Needs.{needs}
+use Rattle.chain.proofs.visit.Statement.{statement}
+use Rattle.chain.proofs.visit.Tie as tie
+
+gives-way-requires : tie.Need-gives-way-requires
+gives-way-requires c κs = search needs
+
+sit-down-requires : tie.Need-sit-down-requires
+sit-down-requires c κs =
+    let some-one = way-some _ _ _ (sym (c .before .before .before .gives-way .ensures) ∙ c .before .before .if1 .taken) in
+    (c .before .before .before .before .before .pre .0, c .before .before .before .before .before .pre .1, some-one, c .before .before .before .before .before .pre .2, c .before .before .before .before .before .pre .4, c .before .before .before .before .before .pre .5)
+
+add-result : tie.Need-add-result
+add-result c = search needs
+
+returns : tie.Need-returns
+returns c = visited-yes (sym (c .before .before .before .before .gives-way .ensures) ∙ c .before .before .before .if1 .taken) (c .before .before .before .before .before .before .pre .4) (c .before .before .before .before .before .before .pre .5) (c .sit-down .ensures .0) (c .sit-down .ensures .1)
+
+returns-2 : tie.Need-returns-2
+returns-2 c = visited-no (sym (c .before .gives-way .ensures) ∙ c .if1 .left) (c .before .before .before .pre .4) (c .before .before .before .pre .5) refl refl
+
+pub visit-spec : {M : Type 1} → statement M
+visit-spec = tie.close (tie.spec gives-way-requires sit-down-requires add-result returns returns-2)

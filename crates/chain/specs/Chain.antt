@@ -1,0 +1,76 @@
+-- The chain of an enrolment as two arrays (document 01, "The rule of placement"): who sits down, by place in the tablet table, and where, by
+-- place in the relay table. The newcomer x is the first. Assumes nothing.
+use mathlib.Core.Bool.{cond}
+use mathlib.Core.List.{List, [], _∷_, _++_}
+use mathlib.Core.Path.{_≡_}
+use Prim.Native.Nat.{ℕ, zero, suc, _+_, _-_, _^_, _≤_, _<_}
+use lib.Dec.{eqb, ltb}
+use lib.ListN.{length, getD}
+use Rattle.ring.specs.Scheme.{Positions}
+use Rattle.rule.specs.declared.Move.{Move}
+use Rattle.rule.specs.Entry.{Entry}
+use Rattle.rule.specs.Sweeps.{Turn, seats, turn, newcomer}
+use Rattle.lent.specs.Table.{mostRelays, relayNumber, tabletNumber, RelaysIn, TabletsIn}
+use Rattle.lent.specs.Placing.{relayPositions, roomAfter}
+use Rattle.order.specs.Keys.{slotRelay, Ordered}
+use Rattle.order.specs.Home.{keyAt, Home}
+use Rattle.survey.specs.Row.{slotRoom, Leads}
+use Rattle.survey.specs.Seats.{lastAfter}
+use Rattle.meaning.specs.Meaning.{tabletsIn}
+use Rattle.meaning.proofs.Right.{Rises}
+use Rattle.slots.specs.Slots.{slotAt, stepsTo, round}
+
+-- the number of the c-th who sits down
+unfoldable pub nameAt : ℕ → List ℕ → List ℕ → ℕ → ℕ
+nameAt x ts place zero = x
+nameAt x ts place (suc c) = tabletNumber ts (getD place (suc c) 0)
+
+-- the relay that it comes from: the seat of the one before it
+unfoldable pub fromAt : List ℕ → List ℕ → ℕ → ℕ
+fromAt rs seat zero = 0
+fromAt rs seat (suc c) = relayNumber rs (getD seat c 0)
+
+unfoldable pub moveAt : ℕ → List ℕ → List ℕ → List ℕ → List ℕ → ℕ → Move
+moveAt x rs ts place seat c = record { tablet = nameAt x ts place c; old = fromAt rs seat c; new = relayNumber rs (getD seat c 0) }
+
+-- the first c who sat down
+unfoldable pub chainOf : ℕ → List ℕ → List ℕ → List ℕ → List ℕ → ℕ → List Move
+chainOf x rs ts place seat zero = []
+chainOf x rs ts place seat (suc c) = chainOf x rs ts place seat c ++ (moveAt x rs ts place seat c ∷ [])
+
+-- the state of a turn: c sat down, and the next walks
+pub record Keeps (x : ℕ) (rs ts place seat : List ℕ) (n m c : ℕ) (s : Turn) : Type 0 where
+  pub walker : s .walker ≡ nameAt x ts place c
+  pub from : s .from ≡ fromAt rs seat c
+  pub chain : s .chain ≡ chainOf x rs ts place seat c
+  pub places : (i : ℕ) → 0 < i → i ≤ c → getD place i 0 < m
+  pub relays : (i : ℕ) → i < c → getD seat i 0 < n
+
+-- the next slot of n
+unfoldable pub nextSlot : ℕ → ℕ → ℕ
+nextSlot n k = cond (eqb (k + 1) n) 0 (k + 1)
+
+-- what a turn is made from: right tables as a survey found them, the newcomer's home, and the first slot with room from there
+pub record From (p : Positions) (rs ts : List ℕ) (n m : ℕ) (keys last : List ℕ) (h stop x : ℕ) : Type 0 where
+  pub rises : Rises p rs ts n m
+  pub ordered : Ordered (relayPositions p rs n) n keys
+  pub greatest : last ≡ lastAfter p rs ts n m
+  pub home : Home keys n (keyAt (p .tabletAt x)) h
+  pub inside : stop < n
+
+-- d steps on, at slot k, c sat down
+pub record Going (rs ts : List ℕ) (n m : ℕ) (keys : List ℕ) (h stop x : ℕ) (place seat : List ℕ) (c d k : ℕ) : Type 0 where
+  pub short : d ≤ stepsTo n h stop
+  pub at : k ≡ slotAt n h d
+  pub few : c ≤ d
+  pub place-size : length place ≡ mostRelays
+  pub seat-size : length seat ≡ mostRelays
+  pub keeps : Keeps x rs ts place seat n m c (turn (tabletsIn ts m) (newcomer x) (round rs keys n h d))
+
+-- the newcomer first, then all who gave way: c of them sat down after the steps to the first slot with room
+pub record Chained (rs ts : List ℕ) (n m : ℕ) (keys : List ℕ) (h stop x c d : ℕ) (place seat : List ℕ) : Type 0 where
+  pub steps : d ≡ stepsTo n h stop
+  pub few : c ≤ d
+  pub is : seats (turn (tabletsIn ts m) (newcomer x) (round rs keys n h d)) (relayNumber rs (slotRelay keys stop)) ≡ chainOf x rs ts place seat (c + 1)
+  pub places : (i : ℕ) → 0 < i → i ≤ c → getD place i 0 < m
+  pub relays : (i : ℕ) → i ≤ c → getD seat i 0 < n

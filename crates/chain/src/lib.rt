@@ -1,0 +1,129 @@
+// The chain of an enrolment (document 01, "The rule of placement"): the newcomer walks its order; at a full relay that holds a greater number it
+// takes the place of the greatest there, and that one walks on, until the first relay with room.
+ghost use mathlib.Core.Path.{_≡_};
+ghost use mathlib.Core.Bool.{cond};
+ghost use Prim.Native.Nat.{ℕ, _+_, _-_, _<_, _≤_};
+ghost use lib.Dec.{eqb};
+ghost use lib.ListN.{length, getD, set};
+ghost use Rattle.ring.specs.Scheme.{positions};
+ghost use Rattle.lent.specs.Table.{tabletPlaces};
+ghost use Rattle.slots.specs.Slots.{slotAt};
+ghost use Rattle.chain.specs.Chain.{nameAt, nextSlot, Keeps, From, Chained};
+ghost use Rattle.chain.specs.Visit.{givesWay, Visited};
+
+// Who sits down where: the first is the newcomer, and `place` has the others' places in the tablet table; `seat` has everybody's relay, by its place
+// in the relay table. `others` is how many gave way, `steps` how many relays were passed.
+pub struct Chain {
+    pub others: usize,
+    pub steps: usize,
+    pub place: [u16; 256],
+    pub seat: [u8; 256],
+}
+
+fn next_slot(n: usize, k: usize) -> usize
+    requires { ⌜ k < 256 ⌝ }
+    ensures { λ r. ⌜ r ≡ nextSlot n k ⌝ }
+{
+    if k + 1 == n { 0 } else { k + 1 }
+}
+
+// The slot that a home means: past the last slot is the first.
+fn first_slot(n: usize, h: usize) -> usize
+    requires { ⌜ h ≤ n ⌝ }
+    ensures { λ r. ⌜ r ≡ slotAt n h 0 ⌝ }
+{
+    if h == n { 0 } else { h }
+}
+
+fn from_u16(x: u16) -> usize
+    ensures { λ r. ⌜ r ≡ x ⌝ }
+{
+    x as usize
+}
+
+// The number of who walks once c sat down.
+fn walker(tablets: &[u32], place: &[u16; 256], c: usize, x: u32) -> u32
+    requires { ⌜ (c < 256) × (0 < c → getD (now place) c 0 < tabletPlaces (now tablets)) ⌝ }
+    ensures { λ r. ⌜ r ≡ nameAt x (now (tablets .entry)) (now (place .entry)) c ⌝ }
+{
+    if c == 0 {
+        return x;
+    }
+    lent::tablet_number(tablets, from_u16(place[c])).0
+}
+
+// Does the greatest tablet at a relay give way to w?
+fn gives_way(tablets: &[u32], w: u32, l: usize) -> bool
+    requires { ⌜ l ≤ tabletPlaces (now tablets) ⌝ }
+    ensures { λ b. ⌜ b ≡ givesWay (now (tablets .entry)) w l ⌝ }
+{
+    if l == 0 {
+        return false;
+    }
+    w < lent::tablet_number(tablets, l - 1).0
+}
+
+// The c-th sits down at relay i, and the tablet at place l - 1 walks on.
+fn sit_down(place: &mut [u16; 256], seat: &mut [u8; 256], c: usize, i: usize, l: usize)
+    requires { ⌜ (c + 1 < 256) × (i < 256) × (0 < l) × (l ≤ 4096) × (length (now place) ≡ 256) × (length (now seat) ≡ 256) ⌝ }
+    ensures { λ r. ⌜ (now (seat .exit) ≡ set (now (seat .entry)) c i) × (now (place .exit) ≡ set (now (place .entry)) (c + 1) (l - 1)) ⌝ }
+{
+    seat[c] = i as u8;
+    place[c + 1] = (l - 1) as u16;
+}
+
+fn visit(
+    tablets: &[u32],
+    place: &mut [u16; 256],
+    seat: &mut [u8; 256],
+    c: usize,
+    w: u32,
+    i: usize,
+    l: usize,
+) -> usize
+    requires { ⌜ (c + 1 < 256) × (i < 256) × (l ≤ 4096) × (l ≤ tabletPlaces (now tablets)) × (length (now place) ≡ 256) × (length (now seat) ≡ 256) ⌝ }
+    ensures { λ r. ⌜ Visited (givesWay (now (tablets .entry)) w l) (now (place .entry)) (now (seat .entry)) (now (place .exit)) (now (seat .exit)) c i l r ⌝ }
+{
+    let gives = gives_way(tablets, w, l);
+    if gives {
+        sit_down(place, seat, c, i, l);
+        return c + 1;
+    }
+    c
+}
+
+// The whole turn, from the newcomer's home h to the first slot with room.
+pub fn turn(
+    relays: &[u32],
+    tablets: &[u32],
+    n: usize,
+    m: usize,
+    keys: &[u64; 256],
+    last: &[u16; 256],
+    h: usize,
+    stop: usize,
+    x: u32,
+) -> Chain
+    requires { ⌜ ((s : ℕ) × From (positions s) (now relays) (now tablets) n m (now keys) (now last) h stop x) ⌝ }
+    ensures { λ r. ⌜ Chained (now (relays .entry)) (now (tablets .entry)) n m (now (keys .entry)) h stop x (r .others) (r .steps) (r .place) (r .seat) ⌝ }
+{
+    let mut place = [0u16; 256];
+    let mut seat = [0u8; 256];
+    let mut c: usize = 0;
+    let mut d: usize = 0;
+    let mut k = first_slot(n, h);
+    while k != stop {
+        let i = order::slot_relay(keys, k);
+        let w = walker(tablets, &place, c, x);
+        c = visit(tablets, &mut place, &mut seat, c, w, i, from_u16(last[i]));
+        k = next_slot(n, k);
+        d += 1;
+    }
+    seat[c] = order::slot_relay(keys, stop) as u8;
+    Chain {
+        others: c,
+        steps: d,
+        place: place,
+        seat: seat,
+    }
+}
