@@ -2,4 +2,3 @@ pub mod Tables
 pub mod Wrote
 pub mod Places
 pub mod Listing
-pub mod Counted

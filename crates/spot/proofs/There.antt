@@ -1,0 +1,30 @@
+-- Whether the number that was looked for stands at its place.
+--   there-at, there-past    it does, or its place is behind all entries
+--   spot-is                 where it is there, it is at that place
+-- Assumes nothing.
+use mathlib.Core.Bool.{true, false, _&&_}
+use mathlib.Core.Path.{_≡_, sym, _∙_}
+use Prim.Native.Nat.{ℕ, _≤_, _<_}
+use borrow.Author.Tests.{ltb-true, eqb-true, lt-ltb, le-ltb}
+use lib.Dec.{eqb, ltb}
+use Rattle.ring.proofs.Tests.{and-left, and-right}
+use Rattle.rule.specs.Entry.{has}
+use Rattle.meaning.specs.Meaning.{places}
+use Rattle.meaning.specs.Ascending.{Ascending}
+use Rattle.meaning.proofs.Places.{has-at}
+use Rattle.spot.specs.Spot.{Spot}
+
+module _ {f : ℕ → ℕ} (b : ℕ → ℕ) {n x at : ℕ} (a : Ascending f n) (s : Spot f n x at) where
+  there-is : has (places f b n) x ≡ (ltb at n && eqb (f at) x)
+  there-is = has-at f b n x a at (s .below) (s .from)
+
+  pub there-at : {y : ℕ} → y ≡ f at → at < n → eqb y x ≡ has (places f b n) x
+  there-at e h = sym (there-is ∙ rw (lt-ltb at n h, e))
+
+  pub there-past : n ≤ at → false ≡ has (places f b n) x
+  there-past h = sym (there-is ∙ rw (le-ltb at n h))
+
+  pub spot-is : has (places f b n) x ≡ true → (at < n) × (f at ≡ x)
+  spot-is h =
+      let e : (ltb at n && eqb (f at) x) ≡ true = sym there-is ∙ h in
+      (ltb-true at n (and-left (ltb at n) (eqb (f at) x) e), eqb-true (f at) x (and-right (ltb at n) (eqb (f at) x) e))
