@@ -1,7 +1,10 @@
 // Enrolling a tablet (document 01, "The rule of placement"). What it comes to is worked out first; nothing lent is written before the last
 // refusal is decided.
 ghost use mathlib.Core.Path.{_≡_};
-ghost use Prim.Native.Nat.{ℕ, _+_, _*_, _<_, _≤_};
+ghost use mathlib.Core.Bool.{_&&_};
+ghost use mathlib.Core.List.{List};
+ghost use lib.Dec.{ltb};
+ghost use Prim.Native.Nat.{ℕ, _+_, _*_, _/_, _<_, _≤_};
 ghost use lib.ListN.{length, getD};
 ghost use Rattle.ring.specs.Scheme.{positions};
 ghost use Rattle.rule.specs.declared.Call.the-variants.{Enrol};
@@ -10,7 +13,7 @@ ghost use Rattle.order.specs.Keys.{Rising};
 ghost use Rattle.survey.specs.Row.{Row};
 ghost use Rattle.write.specs.Wrote.{Climbs};
 ghost use Rattle.look.specs.Promise.{after, Answers};
-ghost use Rattle.enrol.specs.Enrol.{barred, Seeks, Seated};
+ghost use Rattle.enrol.specs.Enrol.{barred, Seeks, SatDown, Seatable, Seated, Planned};
 
 // ---- refusals of the number
 
@@ -59,7 +62,9 @@ fn seek(
     }
 }
 
-fn opens(n: usize, room: u32) -> bool {
+fn opens(n: usize, room: u32) -> bool
+    ensures { λ r. ⌜ r ≡ (ltb 0 n && ltb 0 room) ⌝ }
+{
     if n == 0 { false } else { 0 < room }
 }
 
@@ -89,10 +94,148 @@ fn seat_one(
     new: usize,
 )
     requires { ⌜ (j < m) × (m ≤ tabletPlaces (now tablets)) × Climbs (tabletNumber (now tablets)) m × (old < relayPlaces (now relays)) × (new < relayPlaces (now relays)) × (3 * (c + 1) ≤ length (now moves)) ⌝ }
+    ensures { λ _. ⌜ SatDown (now (relays .entry)) (now (tablets .entry)) (now (tablets .exit)) (now (moves .entry)) (now (moves .exit)) m c j old new ⌝ }
 {
     let t = lent::tablet_number(tablets, j);
     let from = lent::relay_number(relays, old);
     let to = lent::relay_number(relays, new);
     write::list_move(moves, c, t.0, from.0, to.0);
     write::seat_tablet(tablets, m, j, to);
+}
+
+// All who gave way sit down.
+fn seat_others(
+    relays: &[u32],
+    tablets: &mut [u32],
+    moves: &mut [u32],
+    m: usize,
+    place: &[u16; 256],
+    seat: &[u8; 256],
+    others: usize,
+)
+    requires { ⌜ Seatable (now relays) (now tablets) (now moves) (now place) (now seat) m others ⌝ }
+    ensures { λ _. ⌜ ((x : ℕ) → Seated x (now (relays .entry)) (now (tablets .entry)) (now (moves .entry)) (now (place .entry)) (now (seat .entry)) (now (tablets .exit)) (now (moves .exit)) m others) ⌝ }
+{
+    let mut c: usize = 0;
+    while c < others {
+        let j = from_u16(place[c + 1]);
+        let old = from_u8(seat[c]);
+        let new = from_u8(seat[c + 1]);
+        seat_one(relays, tablets, moves, m, c, j, old, new);
+        c += 1;
+    }
+}
+
+// ---- the plan
+
+// What an enrolment comes to: the refusal, or the newcomer's place in the table and everybody who sits down.
+pub struct Plan {
+    pub refusal: rule::Refusal,
+    pub m: usize,
+    pub at: usize,
+    pub chain: chain::Chain,
+}
+
+// A refusal, with nothing planned.
+fn no_plan(refusal: rule::Refusal) -> Plan
+    ensures { λ r. ⌜ r .refusal ≡ refusal ⌝ }
+{
+    Plan {
+        refusal: refusal,
+        m: 0,
+        at: 0,
+        chain: chain::Chain {
+            others: 0,
+            steps: 0,
+            place: [0u16; 256],
+            seat: [0u8; 256],
+        },
+    }
+}
+
+// `room` is how many moves the lent list can take.
+fn work_out(
+    scheme: u32,
+    relays: &[u32],
+    tablets: &[u32],
+    room: usize,
+    t: ring::TabletNumber,
+) -> Plan
+    ensures { λ r. ⌜ ((ms : List ℕ) → room ≡ length ms / 3 → Planned scheme (now (relays .entry)) (now (tablets .entry)) ms t r) ⌝ }
+{
+    let l = look::look(scheme, relays, tablets);
+    let first = l.refusal;
+    let right = rule::done(first);
+    if !right {
+        return no_plan(first);
+    }
+    let n = l.n;
+    let m = l.m;
+    let at = spot::tablet_spot(tablets, m, t);
+    let there = spot::tablet_there(tablets, m, at, t);
+    let bar = barred(t.0, there, lent::tablet_places(tablets), m);
+    let free = rule::done(bar);
+    if !free {
+        return no_plan(bar);
+    }
+    let s = l.survey;
+    let keys = s.keys;
+    let room_left = s.room;
+    let next = s.next;
+    let last = s.last;
+    let sought = seek(scheme, n, &keys, &room_left, &next, t);
+    if !sought.opens {
+        return no_plan(rule::Refusal::LimitsTooSmall);
+    }
+    let chain = chain::turn(
+        relays,
+        tablets,
+        n,
+        m,
+        &keys,
+        &last,
+        sought.home,
+        sought.stop,
+        t.0,
+    );
+    if room < chain.others {
+        return no_plan(rule::Refusal::MoveListTooShort);
+    }
+    Plan {
+        refusal: rule::Refusal::Done,
+        m: m,
+        at: at,
+        chain: chain,
+    }
+}
+
+// ---- the call
+
+pub fn enrol(
+    scheme: u32,
+    relays: &[u32],
+    tablets: &mut [u32],
+    moves: &mut [u32],
+    t: ring::TabletNumber,
+) -> rule::Reply
+    ensures { λ reply. ⌜ Answers (after scheme (now (relays .entry)) (now (tablets .entry)) (now (moves .entry)) (Enrol t)) reply (now (relays .entry)) (now (tablets .exit)) (now (moves .exit)) ⌝ }
+{
+    let p = work_out(scheme, relays, tablets, moves.len() / 3, t);
+    let refusal = p.refusal;
+    let accepted = rule::done(refusal);
+    if !accepted {
+        return rule::refused(refusal);
+    }
+    let c = p.chain;
+    let place = c.place;
+    let seat = c.seat;
+    let relay = lent::relay_number(relays, from_u8(seat[0]));
+    seat_others(relays, tablets, moves, p.m, &place, &seat, c.others);
+    write::insert_tablet(tablets, p.m, p.at, t, relay);
+    rule::Reply {
+        refusal: rule::Refusal::Done,
+        relay: relay.0,
+        passed: c.steps as u32,
+        moves: c.others as u32,
+    }
 }

@@ -1,7 +1,7 @@
 -- Steps round the ring.
 --   slot-inside, steps-inside    a step leads to a slot, and every slot is fewer than n steps away
 --   slot-steps, steps-slot       the two undo one another
---   slot-ahead                   who comes after fewer steps comes no later
+--   slot-ahead, ahead-steps      who comes after fewer steps comes no later, and the other way round
 --   slot-next                    one step more is the next slot
 -- Assumes nothing.
 use mathlib.Core.Bool.{cond}
@@ -85,3 +85,9 @@ module _ (n h : ℕ) (hh : h ≤ n) where
       (λ s. let a : n ≤ h + d = ltb-false (h + d) n s in
       let e : slotAt n h d ≡ h + d - n = slot-round d a in
       rw (ne-eqb (slotAt n h d + 1) n (λ (z : slotAt n h d + 1 ≡ n). omega arith)) (slot-round (d + 1) (omega arith) ∙ omega arith))
+
+  -- who comes no later is no more steps away
+  pub ahead-steps : (k l : ℕ) → k < n → l < n → Ahead h k l → stepsTo n h k ≤ stepsTo n h l
+  ahead-steps k l ck cl (both a b) = omega (arith, steps-on k a, steps-on l (omega arith))
+  ahead-steps k l ck cl (turn a b) = omega (arith, steps-on k a, steps-round l b)
+  ahead-steps k l ck cl (past a b) = omega (arith, steps-round k (omega arith), steps-round l b)

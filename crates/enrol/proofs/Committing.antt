@@ -1,0 +1,94 @@
+-- The call once it is planned: what is written is the outcome. Assumes nothing.
+use mathlib.Core.Bool.{Bool, true, false, not}
+use mathlib.Core.Path.{_≡_, refl, sym, ap, _∙_, subst}
+use mathlib.Core.List.{List, [], _∷_}
+use Prim.Native.Nat.{ℕ, suc, _+_, _≤_, _<_}
+use native.Mathlib.Omega.{arith}
+use lib.ListN.{length, getD}
+use Rattle.ring.specs.Scheme.{positions}
+use Rattle.ring.specs.declared.TabletNumber.{TabletNumber}
+use Rattle.ring.proofs.Tests.{true-false}
+use Rattle.rule.specs.declared.Refusal.{Refusal}
+use Rattle.rule.specs.declared.Refusal.the-variants.{Done, SchemeUnknown, TablesNotRight, NumberZero, TooLarge, NotThere, ThereAlready, NoUnusedPlace, LimitsTooSmall, MoveListTooShort, RosterShapeWrong, RosterContentWrong, OutputUnfit}
+use Rattle.rule.specs.declared.Call.the-variants.{Enrol}
+use Rattle.rule.specs.declared.Reply.{Reply}
+use Rattle.rule.specs.declared.Move.{Move}
+use Rattle.rule.specs.Entry.{Entry, insert, put}
+use Rattle.rule.specs.Refusals.{isDone}
+use Rattle.rule.specs.Calls.{refusal, accepted, moves}
+use Rattle.rule.specs.Calls as Calls
+use Rattle.rule.specs.Sweeps.{seated}
+use Rattle.rule.specs.Stability.{Rising}
+use Rattle.rule.proofs.Puts.{put-insert}
+use Rattle.rule.proofs.Moves.{tabletsOf}
+use Rattle.lent.specs.Table.{relayNumber, tabletNumber, tabletRelay, tabletPlaces}
+use Rattle.meaning.specs.Meaning.{tabletsIn, ringOf, lentOf}
+use Rattle.write.specs.Tables.{tabletTable, listed, filled, flat}
+use Rattle.write.specs.Wrote.{WroteTablets, Place}
+use Rattle.write.specs.Places.{Zeros}
+use Rattle.write.proofs.Filled.{tablets-table, zeros-behind}
+use Rattle.look.specs.Promise.{after, Answers}
+use Rattle.look.proofs.Refusing.{accepted-answers}
+use Rattle.chain.specs.declared.Chain.{Chain}
+use Rattle.enrol.specs.declared.Plan.{Plan}
+use Rattle.enrol.specs.Enrol.{othersOf, Seated, Worked, Planned}
+use Rattle.enrol.proofs.Working.{length-others}
+use Rattle.enrol.proofs.Seating.{places-still}
+
+-- only one refusal is none
+done-is : (r : Refusal) → isDone r ≡ true → r ≡ Done
+unfolding isDone
+done-is Done h = refl
+done-is SchemeUnknown h = absurd (true-false (sym h))
+done-is TablesNotRight h = absurd (true-false (sym h))
+done-is NumberZero h = absurd (true-false (sym h))
+done-is TooLarge h = absurd (true-false (sym h))
+done-is NotThere h = absurd (true-false (sym h))
+done-is ThereAlready h = absurd (true-false (sym h))
+done-is NoUnusedPlace h = absurd (true-false (sym h))
+done-is LimitsTooSmall h = absurd (true-false (sym h))
+done-is MoveListTooShort h = absurd (true-false (sym h))
+done-is RosterShapeWrong h = absurd (true-false (sym h))
+done-is RosterContentWrong h = absurd (true-false (sym h))
+done-is OutputUnfit h = absurd (true-false (sym h))
+
+-- the newcomer put in before or after the others sat down
+seated-insert : (ms : List Move) (low : ℕ) → Rising low (tabletsOf ms) → (x c : ℕ) → x ≤ low → (es : List Entry) → seated ms (insert x c es) ≡ insert x c (seated ms es)
+unfolding seated
+seated-insert [] low up x c h es = refl
+seated-insert (m ∷ ms) low up x c h es =
+    ap (seated ms) (put-insert (m .tablet) (m .new) x c es (λ (e : m .tablet ≡ x). omega (arith, up .0)))
+    ∙ seated-insert ms (m .tablet) (up .1) x c (omega (arith, up .0)) (put (m .tablet) (m .new) es)
+
+module _ {s : ℕ} {rs ts ms : List ℕ} {t : TabletNumber} {p : Plan} (pl : Planned s rs ts ms t p) (d : isDone (p .refusal) ≡ true) where
+  abbrev w : Worked s rs ts ms t (p .m) (p .at) (p .chain)
+  w = pl .worked d
+
+  pub place-still : {ts₁ ms₁ : List ℕ} → Seated (t .0) rs ts ms (p .chain .place) (p .chain .seat) ts₁ ms₁ (p .m) (p .chain .others)
+      → (p .m < tabletPlaces ts₁) × Place (tabletNumber ts₁) (p .m) (t .0) (p .at)
+  place-still {ts₁} sd = (
+    places-still ts₁ ts (sd .size) (w .unused),
+    record {
+      within = w .place .within;
+      below = λ i a. let z = w .place .below i a in omega (arith, sd .numbers i);
+      above = λ i a q. let z = w .place .above i a q in omega (arith, sd .numbers i);
+    },
+  )
+
+  pub enrolled-answers : {ts₁ ms₁ ts₂ : List ℕ} → Seated (t .0) rs ts ms (p .chain .place) (p .chain .seat) ts₁ ms₁ (p .m) (p .chain .others) → (r i : ℕ) → i ≡ getD (p .chain .seat) 0 0 → r ≡ relayNumber rs i
+      → WroteTablets ts₁ ts₂ (p .m + 1) (insert (t .0) r (tabletsIn ts₁ (p .m)))
+      → Answers (after s rs ts ms (Enrol t)) (record { refusal = Done; relay = r; passed = p .chain .steps; moves = p .chain .others }) rs ts₂ ms₁
+  unfolding accepted tabletTable
+  enrolled-answers {ts₁} {ms₁} {ts₂} sd r i ei er wrote =
+      let relay : r ≡ relayNumber rs (getD (p .chain .seat) 0 0) = er ∙ ap (relayNumber rs) ei in
+      let others : List Move = othersOf (t .0) rs ts (p .chain .place) (p .chain .seat) (p .chain .others) in
+      let entries : tabletsIn ts₂ (p .m + 1) ≡ Calls.after (positions s) (ringOf rs ts) (Enrol t) .tablets =
+      wrote .entries ∙ ap (λ (z : ℕ). insert (t .0) z (tabletsIn ts₁ (p .m))) relay ∙ ap (insert (t .0) (relayNumber rs (getD (p .chain .seat) 0 0))) (sd .entries)
+      ∙ sym (seated-insert others (t .0) (w .above) (t .0) (relayNumber rs (getD (p .chain .seat) 0 0)) (omega arith) (tabletsIn ts (p .m))) ∙ sym (w .tablets) in
+      let whole : WroteTablets ts ts₂ (p .m + 1) (Calls.after (positions s) (ringOf rs ts) (Enrol t) .tablets) =
+      record { size = wrote .size ∙ sd .size; entries = entries; number = λ j a. wrote .number j a ∙ sd .numbers j; relay = λ j a. wrote .relay j a ∙ sd .relays j (omega arith) } in
+      accepted-answers s rs ts ms (Enrol t) (sym (pl .refusal) ∙ done-is (p .refusal) d) _ rs ts₂ ms₁
+      (λ k. record { refusal = Done; relay = (relay ∙ sym (w .relay)) k; passed = sym (w .passed) k; moves = (sym (length-others (t .0) rs ts (p .chain .place) (p .chain .seat) (p .chain .others)) ∙ ap length (sym (w .moves))) k })
+      (w .relays)
+      (tablets-table whole (w .whole) (omega (arith, w .unused)) (zeros-behind (p .m + 1) (omega arith) (w .zeros)))
+      (sd .list ∙ ap (λ (z : List Move). listed z ms) (sym (w .moves)))

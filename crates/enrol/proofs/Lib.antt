@@ -1,0 +1,4 @@
+pub mod Working
+pub mod Seating
+pub mod Planning
+pub mod Committing
