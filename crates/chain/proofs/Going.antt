@@ -1,14 +1,14 @@
 -- The loop of a turn: at its start, over one more slot, at its end. Assumes nothing.
 use mathlib.Core.Bool.{Bool, true, false, cond}
-use mathlib.Core.Path.{_≡_, refl, sym, ap, _∙_, subst}
-use mathlib.Core.List.{List, [], _∷_, _++_}
-use Prim.Native.Nat.{ℕ, zero, suc, _+_, _≤_, _<_}
+use mathlib.Core.Path.{_≡_, sym, ap, _∙_, subst}
+use mathlib.Core.List.{List}
+use Prim.Native.Nat.{ℕ, _+_, _≤_, _<_}
 use native.Mathlib.Omega.{arith}
 use native.Mathlib.Numerals.{add-one}
 use lib.Dec.{eqb}
 use lib.ListN.{length, getD, set}
 use Rattle.ring.specs.Scheme.{Positions}
-use Rattle.rule.specs.Entry.{Entry, entry}
+use Rattle.rule.specs.Entry.{entry}
 use Rattle.rule.specs.Walks.{greatest}
 use Rattle.rule.specs.Sweeps.{Turn, seats, turnAt, turn, newcomer}
 use Rattle.rule.proofs.Turning.{turn-none, turn-last}
@@ -16,9 +16,8 @@ use Rattle.lent.specs.Table.{mostRelays, relayNumber, tabletPlaces}
 use Rattle.lent.proofs.Loops.{stored}
 use Rattle.order.specs.Keys.{slotRelay}
 use Rattle.meaning.specs.Meaning.{places, tabletsIn}
-use Rattle.meaning.proofs.Right.{Rises}
 use Rattle.slots.specs.Slots.{slotAt, stepsTo, numberAt, limitAt, round}
-use Rattle.slots.proofs.Steps.{slot-on, slot-round, slot-inside, steps-inside, slot-steps, steps-slot, slot-next}
+use Rattle.slots.proofs.Steps.{slot-inside, steps-inside, slot-steps, steps-slot, slot-next}
 use Rattle.chain.specs.Chain.{nameAt, chainOf, nextSlot, Keeps, From, Going, Chained}
 use Rattle.chain.specs.Visit.{givesWay, Visited}
 use Rattle.chain.proofs.Keeping.{numberBefore, last-within, greatest-last, keeps-start, keeps-end, keeps-visited}

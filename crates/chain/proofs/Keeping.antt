@@ -5,29 +5,26 @@
 --   keeps-start, keeps-visited, keeps-end   the state of a turn: at its start, over one more relay, at its end
 -- Assumes nothing.
 use mathlib.Core.Bool.{Bool, true, false, cond}
-use mathlib.Core.Path.{_≡_, refl, sym, ap, _∙_, subst}
+use mathlib.Core.Path.{_≡_, refl, sym, ap, _∙_}
 use mathlib.Core.List.{List, [], _∷_, _++_}
-use mathlib.Core.Logic.{_⊎_, inl, inr, ⊎-elim}
 use Prim.Native.Nat.{ℕ, zero, suc, _+_, _-_, _≤_, _<_}
 use native.Mathlib.Omega.{arith}
 use native.Mathlib.Numerals.{add-one}
-use borrow.Author.Tests.{ltb-true, ltb-false, eqb-true, eqb-false, eq-eqb, ne-eqb, lt-ltb, le-ltb}
+use borrow.Author.Tests.{eqb-false, eq-eqb, ne-eqb, le-ltb}
 use lib.Dec.{eqb, ltb}
 use lib.ListN.{length, getD, set, length-set, getD-replicate}
 use lib.Seq.{getD-set-same, getD-set-other}
 use Rattle.ring.specs.Scheme.{Positions}
 use Rattle.ring.proofs.Tests.{split, true-false}
-use Rattle.rule.specs.declared.Move.{Move}
-use Rattle.rule.specs.Entry.{Entry, entry}
+use Rattle.rule.specs.Entry.{Entry}
 use Rattle.rule.specs.Walks.{greatest}
-use Rattle.rule.specs.Sweeps.{Turn, seats, turnAt, turn, newcomer}
+use Rattle.rule.specs.Sweeps.{Turn, seats, turnAt, newcomer}
 use Rattle.rule.proofs.Turning.{turnAt-yes, turnAt-no, displacedBy}
 use Rattle.lent.specs.Table.{relayNumber, tabletNumber, tabletRelay}
 use Rattle.lent.specs.Placing.{relayFor}
 use Rattle.lent.proofs.Loops.{stored}
 use Rattle.survey.specs.Seats.{lastAfter}
 use Rattle.meaning.specs.Meaning.{places, tabletsIn}
-use Rattle.meaning.specs.Ascending.{Ascending}
 use Rattle.meaning.proofs.Places.{ascending-apart, ascending-fewer}
 use Rattle.meaning.proofs.More.{greatest-more}
 use Rattle.meaning.proofs.Placed.{Found}

@@ -3,18 +3,16 @@
 use mathlib.Core.Bool.{cond}
 use mathlib.Core.List.{List, [], _∷_, _++_}
 use mathlib.Core.Path.{_≡_}
-use Prim.Native.Nat.{ℕ, zero, suc, _+_, _-_, _^_, _≤_, _<_}
-use lib.Dec.{eqb, ltb}
+use Prim.Native.Nat.{ℕ, zero, suc, _+_, _≤_, _<_}
+use lib.Dec.{eqb}
 use lib.ListN.{length, getD}
 use Rattle.ring.specs.Scheme.{Positions}
 use Rattle.rule.specs.declared.Move.{Move}
-use Rattle.rule.specs.Entry.{Entry}
 use Rattle.rule.specs.Sweeps.{Turn, seats, turn, newcomer}
-use Rattle.lent.specs.Table.{mostRelays, relayNumber, tabletNumber, RelaysIn, TabletsIn}
-use Rattle.lent.specs.Placing.{relayPositions, roomAfter}
+use Rattle.lent.specs.Table.{mostRelays, relayNumber, tabletNumber}
+use Rattle.lent.specs.Placing.{relayPositions}
 use Rattle.order.specs.Keys.{slotRelay, Ordered}
 use Rattle.order.specs.Home.{keyAt, Home}
-use Rattle.survey.specs.Row.{slotRoom, Leads}
 use Rattle.survey.specs.Seats.{lastAfter}
 use Rattle.meaning.specs.Meaning.{tabletsIn}
 use Rattle.meaning.proofs.Right.{Rises}

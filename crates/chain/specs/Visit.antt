@@ -1,6 +1,6 @@
 -- One relay of a turn: the walker w takes the place of the greatest tablet there, if that is greater (document 01, "The rule of placement").
 -- Assumes nothing.
-use mathlib.Core.Bool.{Bool, true, false, cond}
+use mathlib.Core.Bool.{Bool, false, cond}
 use mathlib.Core.List.{List}
 use mathlib.Core.Path.{_≡_}
 use Prim.Native.Nat.{ℕ, _+_, _-_}

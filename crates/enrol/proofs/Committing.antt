@@ -1,8 +1,8 @@
 -- The call once it is planned: what is written is the outcome. Assumes nothing.
-use mathlib.Core.Bool.{Bool, true, false, not}
-use mathlib.Core.Path.{_≡_, refl, sym, ap, _∙_, subst}
+use mathlib.Core.Bool.{true}
+use mathlib.Core.Path.{_≡_, refl, sym, ap, _∙_}
 use mathlib.Core.List.{List, [], _∷_}
-use Prim.Native.Nat.{ℕ, suc, _+_, _≤_, _<_}
+use Prim.Native.Nat.{ℕ, _+_, _≤_, _<_}
 use native.Mathlib.Omega.{arith}
 use lib.ListN.{length, getD}
 use Rattle.ring.specs.Scheme.{positions}
@@ -11,7 +11,6 @@ use Rattle.ring.proofs.Tests.{true-false}
 use Rattle.rule.specs.declared.Refusal.{Refusal}
 use Rattle.rule.specs.declared.Refusal.the-variants.{Done, SchemeUnknown, TablesNotRight, NumberZero, TooLarge, NotThere, ThereAlready, NoUnusedPlace, LimitsTooSmall, MoveListTooShort, RosterShapeWrong, RosterContentWrong, OutputUnfit}
 use Rattle.rule.specs.declared.Call.the-variants.{Enrol}
-use Rattle.rule.specs.declared.Reply.{Reply}
 use Rattle.rule.specs.declared.Move.{Move}
 use Rattle.rule.specs.Entry.{Entry, insert, put}
 use Rattle.rule.specs.Refusals.{isDone}
@@ -21,15 +20,13 @@ use Rattle.rule.specs.Sweeps.{seated}
 use Rattle.rule.specs.Stability.{Rising}
 use Rattle.rule.proofs.Puts.{put-insert}
 use Rattle.rule.proofs.Moves.{tabletsOf}
-use Rattle.lent.specs.Table.{relayNumber, tabletNumber, tabletRelay, tabletPlaces}
-use Rattle.meaning.specs.Meaning.{tabletsIn, ringOf, lentOf}
-use Rattle.write.specs.Tables.{tabletTable, listed, filled, flat}
+use Rattle.lent.specs.Table.{relayNumber, tabletNumber, tabletPlaces}
+use Rattle.meaning.specs.Meaning.{tabletsIn, ringOf}
+use Rattle.write.specs.Tables.{tabletTable, listed}
 use Rattle.write.specs.Wrote.{WroteTablets, Place}
-use Rattle.write.specs.Places.{Zeros}
 use Rattle.write.proofs.Filled.{tablets-table, zeros-behind}
 use Rattle.look.specs.Promise.{after, Answers}
 use Rattle.look.proofs.Refusing.{accepted-answers}
-use Rattle.chain.specs.declared.Chain.{Chain}
 use Rattle.enrol.specs.declared.Plan.{Plan}
 use Rattle.enrol.specs.Enrol.{othersOf, Seated, Worked, Planned}
 use Rattle.enrol.proofs.Working.{length-others}

@@ -1,15 +1,15 @@
 -- The plan of an enrolment: each way out, and the one past them all. Assumes nothing.
 use mathlib.Core.Bool.{Bool, true, false, not}
-use mathlib.Core.Path.{_≡_, refl, sym, ap, _∙_, subst}
+use mathlib.Core.Path.{_≡_, refl, sym, ap, _∙_}
 use mathlib.Core.List.{List}
-use Prim.Native.Nat.{ℕ, _+_, _*_, _/_, _^_, _≤_, _<_}
+use Prim.Native.Nat.{ℕ, _/_, _^_, _≤_, _<_}
 use native.Mathlib.Omega.{arith}
 use borrow.Author.Tests.{eqb-false, leb-false}
 use lib.Dec.{eqb, leb}
-use lib.ListN.{length, getD}
+use lib.ListN.{length}
 use Rattle.ring.specs.Scheme.{positions}
 use Rattle.ring.specs.declared.TabletNumber.{TabletNumber}
-use Rattle.ring.proofs.Tests.{split, and-left, not-false, true-false}
+use Rattle.ring.proofs.Tests.{not-false, true-false}
 use Rattle.rule.specs.declared.Refusal.{Refusal}
 use Rattle.rule.specs.declared.Refusal.the-variants.{Done, LimitsTooSmall, MoveListTooShort}
 use Rattle.rule.specs.declared.Call.the-variants.{Enrol}
@@ -19,25 +19,21 @@ use Rattle.rule.specs.Rule.{Ring}
 use Rattle.rule.specs.Calls.{refusal, moves, edited}
 use Rattle.rule.specs.Calls as Calls
 use Rattle.rule.proofs.Accepted.{bar-passed}
-use Rattle.lent.specs.Table.{relayNumber, relayLimit, tabletNumber, tabletRelay, tabletPlaces, relayPlaces, tabletWhole, relayWhole}
-use Rattle.lent.specs.Shape.{relayShape, tabletShape}
+use Rattle.lent.specs.Table.{tabletNumber, tabletRelay, tabletPlaces}
 use Rattle.survey.specs.declared.Survey.{Survey}
-use Rattle.meaning.specs.Meaning.{Words, relaysIn, tabletsIn, ringOf, lentOf}
+use Rattle.meaning.specs.Meaning.{tabletsIn, ringOf, lentOf}
 use Rattle.meaning.proofs.Right.{Rises}
-use Rattle.slots.specs.Slots.{stepsTo}
 use Rattle.spot.specs.Spot.{Spot}
 use Rattle.write.specs.Tables.{relayTable}
-use Rattle.write.specs.Wrote.{Climbs, Place}
-use Rattle.write.specs.Places.{Zeros}
 use Rattle.meaning.proofs.Places.{has-place}
 use Rattle.slots.proofs.Steps.{steps-inside}
-use Rattle.look.specs.Start.{checked, Start}
+use Rattle.look.specs.Start.{Start}
 use Rattle.look.proofs.Checked.{not-true}
-use Rattle.look.proofs.Refusing.{start-rises, tablets-whole, relays-same, look-refused, number-refused, limits-refused, list-refused, all-passed}
-use Rattle.chain.specs.declared.Chain.{Chain}
+use Rattle.look.proofs.Refusing.{start-rises, start-ring, number-refused, limits-refused, list-refused, all-passed}
+use Rattle.look.proofs.Stays.{tablets-whole, tablets-zeros, relays-stay}
 use Rattle.chain.specs.Chain.{From, Chained}
 use Rattle.enrol.specs.declared.Plan.{Plan}
-use Rattle.enrol.specs.Enrol.{barred, Seeks, othersOf, Seatable, Worked, Planned}
+use Rattle.enrol.specs.Enrol.{barred, Seeks, othersOf, Planned}
 use Rattle.enrol.proofs.Working.{number-bars, shut-small, open-enough, stop-inside, steps-passed, others-moves, others-above, first-relay, others-after, length-others}
 
 -- a test that came out false
@@ -129,7 +125,7 @@ module _ {s : ℕ} {rs ts : List ℕ} {n m : ℕ} {v : Survey} (b : Start s rs t
                     unused = omega (arith, free .unused);
                     place = record { within = spot .within; below = spot .below; above = λ i a q. above-at i a q };
                     whole = tablets-whole b;
-                    zeros = record { numbers = λ i a q. rises .tabletsRest i a .0; besides = λ i a q. rises .tabletsRest i a .1 };
+                    zeros = tablets-zeros b;
                     passed = steps-passed b t k o small (free .some-number) (sym et ∙ free .new) ∙ sym (w .steps);
                     moves = the-moves;
                     relay = first-relay b t k o small (free .some-number) (sym et ∙ free .new) w;
@@ -144,4 +140,4 @@ module _ {s : ℕ} {rs ts : List ℕ} {n m : ℕ} {v : Survey} (b : Start s rs t
                 omega (arith, spot .from i a q)
 
             relays-still : rs ≡ relayTable (length rs) (Calls.after (positions s) (ringOf rs ts) (Enrol t))
-            relays-still = unfold relayTable Calls.after edited in (relays-same b)
+            relays-still = relays-stay b (Calls.after (positions s) (ringOf rs ts) (Enrol t)) (unfold Calls.after edited in (ap (λ (g : Ring). g .relays) (start-ring b)))

@@ -4,12 +4,12 @@
 -- Assumes nothing.
 use mathlib.Core.Path.{_≡_, refl, sym, ap, _∙_, subst}
 use mathlib.Core.List.{List, [], _∷_, _++_}
-use Prim.Native.Nat.{ℕ, zero, suc, _+_, _*_, _≤_, _<_}
+use Prim.Native.Nat.{ℕ, suc, _+_, _*_, _≤_}
 use native.Mathlib.Omega.{arith}
 use native.Mathlib.Numerals.{add-one}
 use lib.ListN.{length, getD}
 use Rattle.rule.specs.declared.Move.{Move}
-use Rattle.rule.specs.Entry.{Entry, entry, put}
+use Rattle.rule.specs.Entry.{put}
 use Rattle.rule.specs.Sweeps.{seated}
 use Rattle.rule.proofs.Turning.{seated-append}
 use Rattle.lent.specs.Table.{relayNumber, tabletNumber, tabletRelay, tabletPlaces}

@@ -6,13 +6,12 @@
 use mathlib.Core.Bool.{Bool, true, false, _&&_}
 use mathlib.Core.Path.{_≡_, refl, sym, ap, _∙_, subst}
 use mathlib.Core.List.{List, [], _∷_, _++_}
-use mathlib.Core.Logic.{_⊎_, inl, inr, ⊎-elim}
 use mathlib.Core.Option.{some}
 use Prim.Native.Nat.{ℕ, zero, suc, _+_, _-_, _%_, _^_, _≤_, _<_}
 use native.Mathlib.Omega.{arith}
 use native.Mathlib.Numerals.{add-one}
 use borrow.Author.Tests.{ltb-true, ltb-false, lt-ltb, le-ltb, eqb-true, eqb-false}
-use lib.Dec.{eqb, ltb, leb}
+use lib.Dec.{eqb, ltb}
 use lib.ListN.{length, getD, length-append}
 use Rattle.ring.specs.Scheme.{Positions, positions}
 use Rattle.ring.specs.declared.TabletNumber.{TabletNumber}
@@ -22,8 +21,8 @@ use Rattle.rule.specs.declared.Call.the-variants.{Enrol}
 use Rattle.rule.specs.Entry.{Entry, entry, numbers, has, insert, total, load, first, upTo}
 use Rattle.rule.specs.Order.{order}
 use Rattle.rule.specs.Rule.{Ring, hasRoom}
-use Rattle.rule.specs.Refusals.{isDone, firstBar}
-use Rattle.rule.specs.Calls.{Lent, wrongNumbers, edited, moves, relayOf, passed}
+use Rattle.rule.specs.Refusals.{firstBar}
+use Rattle.rule.specs.Calls.{wrongNumbers, edited, moves, relayOf, passed}
 use Rattle.rule.specs.Calls as Calls
 use Rattle.rule.specs.Sweeps.{seated, seats, turn, newcomer}
 use Rattle.rule.specs.Stability.{Rising, In}
@@ -34,7 +33,6 @@ use Rattle.rule.proofs.Demand3.{in-has}
 use Rattle.rule.proofs.Listing.{Chain}
 use Rattle.rule.proofs.Outcomes.{enrol-chain, enrol-after, enrol-moves, enrol-relay, enrol-passed}
 use Rattle.lent.specs.Table.{mostRelays, relayNumber, relayLimit, tabletNumber, tabletRelay, tabletPlaces}
-use Rattle.lent.specs.Placing.{roomAfter}
 use Rattle.order.specs.Keys.{slotRelay}
 use Rattle.order.specs.Home.{keyAt, Home}
 use Rattle.survey.specs.declared.Survey.{Survey}
@@ -51,7 +49,7 @@ use Rattle.slots.proofs.Lists.{upTo-places, first-places}
 use Rattle.slots.proofs.Round.{order-round}
 use Rattle.look.specs.Start.{Start}
 use Rattle.look.proofs.Refusing.{found, start-rises, start-ring}
-use Rattle.chain.specs.Chain.{nameAt, fromAt, moveAt, chainOf, From, Chained}
+use Rattle.chain.specs.Chain.{moveAt, chainOf, Chained}
 use Rattle.enrol.specs.Enrol.{barred, Seeks, othersOf}
 
 -- ---- totals

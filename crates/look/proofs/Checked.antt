@@ -1,8 +1,8 @@
 -- The ways out of a look: which refusal each means, and what is known past them all. Assumes nothing.
-use mathlib.Core.Bool.{Bool, true, false, not, _&&_}
+use mathlib.Core.Bool.{Bool, true, false, not}
 use mathlib.Core.Path.{_≡_, refl, sym, ap, _∙_}
 use mathlib.Core.List.{List}
-use Prim.Native.Nat.{ℕ, _<_, _^_}
+use Prim.Native.Nat.{ℕ}
 use lib.ListN.{getD}
 use mir.Val.{Fits}
 use mir.Syntax.{w32}
@@ -15,11 +15,9 @@ use Rattle.lent.specs.Table.{RelaysIn, TabletsIn}
 use Rattle.lent.specs.Shape.{relayShape, tabletShape, relaysUsed, tabletsUsed}
 use Rattle.lent.specs.Placing.{right, placed}
 use Rattle.lent.proofs.Shape.{relays-in, tablets-in}
-use Rattle.survey.specs.declared.Survey.{Survey}
-use Rattle.survey.specs.Seats.{Surveyed}
 use Rattle.meaning.specs.Meaning.{Words}
 use Rattle.look.specs.declared.Looked.{Looked}
-use Rattle.look.specs.Start.{checked, Start, Looks}
+use Rattle.look.specs.Start.{checked, Looks}
 
 pub not-true : {b : Bool} → not b ≡ true → b ≡ false
 not-true {b} e = go b e

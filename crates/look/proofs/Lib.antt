@@ -1,2 +1,4 @@
 pub mod Checked
 pub mod Refusing
+pub mod Stays
+pub mod Ways

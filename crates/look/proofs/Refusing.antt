@@ -10,7 +10,7 @@ use borrow.Author.Tests.{lt-ltb, le-ltb}
 use lib.Dec.{ltb}
 use lib.ListN.{length}
 use Rattle.ring.specs.Scheme.{known, Positions, positions}
-use Rattle.ring.proofs.Tests.{split, and-left, and-right, true-false}
+use Rattle.ring.proofs.Tests.{split, true-false}
 use Rattle.rule.specs.declared.Refusal.{Refusal}
 use Rattle.rule.specs.declared.Refusal.the-variants.{Done, SchemeUnknown, TablesNotRight, LimitsTooSmall, MoveListTooShort}
 use Rattle.rule.specs.declared.Call.{Call}
@@ -19,19 +19,15 @@ use Rattle.rule.specs.Entry.{total}
 use Rattle.rule.specs.Rule as Rule
 use Rattle.rule.specs.Rule.{Ring}
 use Rattle.rule.specs.Refusals.{isDone, refusedBy, Bar, bar, firstBar}
-use Rattle.rule.specs.Calls.{Lent, Outcome, edited, moves, wrongNumbers, refusal, relayOf, passed, accepted, declined, outcome}
+use Rattle.rule.specs.Calls.{Lent, edited, moves, wrongNumbers, refusal, accepted, declined, outcome}
 use Rattle.rule.specs.Calls as Calls
 use Rattle.rule.proofs.Accepted.{outcome-accepted, outcome-declined}
-use Rattle.lent.specs.Table.{relayWhole, tabletWhole}
-use Rattle.lent.specs.Shape.{relayFits, tabletFits}
 use Rattle.lent.specs.Placing.{right}
 use Rattle.meaning.specs.Meaning.{Words, relaysIn, tabletsIn, ringOf, fitTables, lentOf}
 use Rattle.meaning.proofs.Right.{Rises, right-meaning, right-rises}
 use Rattle.survey.specs.declared.Survey.{Survey}
-use Rattle.write.specs.Tables.{flat, filled, relayTable, tabletTable, listed}
-use Rattle.write.specs.Places.{Zeros}
-use Rattle.write.proofs.Filled.{relays-filled}
-use Rattle.look.specs.Promise.{outcomeOf, After, written, unchanged, settled, after, Answers}
+use Rattle.write.specs.Tables.{relayTable, tabletTable, listed}
+use Rattle.look.specs.Promise.{outcomeOf, written, unchanged, settled, after, Answers}
 use Rattle.look.specs.Start.{checked, Start}
 
 -- ---- what is left of an outcome
@@ -60,22 +56,6 @@ module _ {s : ℕ} {rs ts : List ℕ} {n m : ℕ} {v : Survey} (b : Start s rs t
 
   tables-right : (fitTables rs ts && Rule.right (positions s) (ringOf rs ts)) ≡ true
   tables-right = sym (right-meaning (positions s) rs ts (b .relayWords) (b .tabletWords)) ∙ b .right
-
-  -- both have whole places
-  pub relays-whole : relayWhole rs ≡ true
-  unfolding fitTables relayFits
-  relays-whole = and-left (relayWhole rs) _ (and-left (relayFits rs) _ (and-left (fitTables rs ts) _ tables-right))
-
-  pub tablets-whole : tabletWhole ts ≡ true
-  unfolding fitTables tabletFits
-  tablets-whole = and-left (tabletWhole ts) _ (and-left (tabletFits ts) _ (and-right (relayFits rs) _ (and-left (fitTables rs ts) _ tables-right)))
-
-  -- where the relays stay, so does their table
-  pub relays-same : rs ≡ filled (length rs) (flat (ringOf rs ts .relays))
-  relays-same =
-      let r : Rises (positions s) rs ts n m = start-rises in
-      relays-filled rs n relays-whole (r .relaysFit .there) (record { numbers = λ i a q. r .relaysRest i a .0; besides = λ i a q. r .relaysRest i a .1 })
-      ∙ ap (λ (g : Ring). filled (length rs) (flat (g .relays))) (sym start-ring)
 
 -- ---- refusals
 

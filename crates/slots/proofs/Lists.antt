@@ -5,18 +5,16 @@
 -- Assumes nothing.
 use mathlib.Core.Bool.{Bool, true, false}
 use mathlib.Core.Path.{_≡_, refl, sym, ap, _∙_, subst}
-use mathlib.Core.List.{List, [], _∷_, _++_}
-use mathlib.Core.Logic.{_⊎_, inl, inr, ⊎-elim}
-use mathlib.Core.Option.{Option, none, some}
-use Prim.Native.Nat.{ℕ, zero, suc, _+_, _^_, _≤_, _<_}
+use mathlib.Core.List.{List, [], _∷_}
+use mathlib.Core.Logic.{inl, inr, ⊎-elim}
+use mathlib.Core.Option.{some}
+use Prim.Native.Nat.{ℕ, zero, suc, _≤_, _<_}
 use native.Mathlib.Omega.{arith}
-use native.Mathlib.Numerals.{add-one}
 use Rattle.ring.specs.Scheme.{Positions}
 use Rattle.ring.specs.Clockwise.{key}
-use Rattle.ring.proofs.Tests.{split}
 use Rattle.ring.proofs.Order.{key-apart}
 use Rattle.rule.specs.Entry.{Entry, entry, first, upTo}
-use Rattle.rule.proofs.Orders.{Among, Sorted, Small, behind-head}
+use Rattle.rule.proofs.Orders.{Among, Sorted, Small}
 use Rattle.rule.proofs.Turning.{Distinct, upTo-stop, upTo-go}
 use Rattle.meaning.specs.Meaning.{places}
 use Rattle.meaning.proofs.Places.{places-cons, next}

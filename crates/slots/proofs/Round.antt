@@ -3,15 +3,12 @@
 --   order-round    the order is the round
 --   passed-steps   to have passed a relay is to have it fewer steps ahead
 -- Assumes nothing.
-use mathlib.Core.Bool.{Bool, true, false}
-use mathlib.Core.Path.{_≡_, refl, sym, ap, _∙_, subst}
-use mathlib.Core.List.{List, [], _∷_}
-use mathlib.Core.Logic.{_⊎_, inl, inr, ⊎-elim}
-use Prim.Native.Nat.{ℕ, _+_, _^_, _≤_, _<_}
+use mathlib.Core.Path.{_≡_, sym, ap, _∙_, subst}
+use mathlib.Core.List.{List}
+use Prim.Native.Nat.{ℕ, _^_, _≤_, _<_}
 use native.Mathlib.Omega.{arith}
 use borrow.Author.Tests.{ltb-true, ltb-false, lt-ltb, le-ltb, eqb-true, eqb-false}
 use lib.Dec.{ltb, eqb}
-use lib.ListN.{getD}
 use Rattle.ring.specs.Scheme.{Positions}
 use Rattle.ring.specs.Clockwise.{sooner, key}
 use Rattle.ring.proofs.Tests.{split}
@@ -19,15 +16,13 @@ use Rattle.ring.proofs.Order.{sooner-key}
 use Rattle.rule.specs.Entry.{Entry, entry}
 use Rattle.rule.specs.Order.{order}
 use Rattle.rule.proofs.Orders.{Among, Small, order-in, in-order, order-sorted}
-use Rattle.rule.proofs.Turning.{Distinct, distinct-order, distinct-rising}
-use Rattle.rule.proofs.Right.{Table}
+use Rattle.rule.proofs.Turning.{distinct-order, distinct-rising}
 use Rattle.lent.specs.Table.{mostRelays, relayNumber, relayLimit}
 use Rattle.lent.specs.Placing.{relayPositions, keyFrom}
 use Rattle.order.specs.Keys.{slotRelay, Ordered}
 use Rattle.order.specs.Home.{keyAt, Home}
-use Rattle.survey.specs.Row.{Ahead}
 use Rattle.survey.proofs.Led.{keyOf, nearer}
-use Rattle.meaning.specs.Meaning.{places, relaysIn}
+use Rattle.meaning.specs.Meaning.{relaysIn}
 use Rattle.meaning.specs.Ascending.{Ascending}
 use Rattle.meaning.proofs.Places.{ascending-apart, table-places}
 use Rattle.meaning.proofs.Keys.{placeKey, SameOrder, key-order}

@@ -1,0 +1,53 @@
+-- `find::find` meets its contract. A look that is refused refuses the find, and so does a number that is zero or not there; past these the
+-- reply is the tablet's seat. Assumes nothing.
+use Rattle.look.proofs.Checked.{words-of}
+use Rattle.look.proofs.Ways.{look-start, look-answers}
+use Rattle.seat.proofs.Passing.{start-seated}
+use Rattle.seat.proofs.Standing.{missing-find, seat-refused}
+use Rattle.find.proofs.Finding.{find-found}
+use borrow.Author.Needs.{needs}
+use Rattle.find.proofs.find.Statement.{statement}
+use Rattle.find.proofs.find.Tie as tie
+
+look-requires : tie.Need-look-requires
+look-requires c κs = search needs
+
+done-requires : tie.Need-done-requires
+done-requires c κs = search needs
+
+refused-requires : tie.Need-refused-requires
+refused-requires c κs = search needs
+
+returns : tie.Need-returns
+returns c = look-answers (c .before .before .before .look .ensures) (c .before .before .done .ensures) (words-of _ (c .before .before .before .before .before .shared-slice-known .given)) (words-of _ (c .before .before .before .before .shared-slice-known2 .given)) (c .before .if1 .taken) (c .refused .ensures) _
+
+seat-of-requires : tie.Need-seat-of-requires
+seat-of-requires c κs = start-seated (look-start (c .before .before .before .before .before .before .look .ensures) (c .before .before .before .before .before .done .ensures) (c .before .before .before .before .if1 .left))
+
+done-requires-2 : tie.Need-done-requires-2
+done-requires-2 c κs = search needs
+
+refused-requires-2 : tie.Need-refused-requires-2
+refused-requires-2 c κs = search needs
+
+returns-2 : tie.Need-returns-2
+returns-2 c =
+    let b = look-start (c .before .before .before .before .before .before .before .before .before .before .look .ensures) (c .before .before .before .before .before .before .before .before .before .done .ensures) (c .before .before .before .before .before .before .before .before .if1 .left) in
+    seat-refused b _ (c .before .before .before .seat-of .ensures) (c .before .before .done2 .ensures) (c .before .if2 .taken) (c .refused2 .ensures) _ (missing-find b _)
+
+returns-3 : tie.Need-returns-3
+returns-3 c = find-found (look-start (c .before .before .before .before .before .before .before .before .before .look .ensures) (c .before .before .before .before .before .before .before .before .done .ensures) (c .before .before .before .before .before .before .before .if1 .left)) _ (c .before .before .seat-of .ensures) (c .before .done2 .ensures) (c .if2 .left)
+
+pub find-spec : {M : Type 1} → statement M
+find-spec =
+    tie.close
+    (tie.spec
+    look-requires
+    done-requires
+    refused-requires
+    returns
+    seat-of-requires
+    done-requires-2
+    refused-requires-2
+    returns-2
+    returns-3)

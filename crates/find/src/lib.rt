@@ -1,0 +1,33 @@
+// The call that finds a tablet (document 01, "Replies").
+ghost use mathlib.Core.List.{List};
+ghost use Prim.Native.Nat.{ℕ};
+ghost use Rattle.rule.specs.declared.Call.the-variants.{Find};
+ghost use Rattle.look.specs.Promise.{after, Answers};
+
+// The tablet's relay, and how many relays come before it in the tablet's clockwise order. A find makes no moves, so the promise
+// holds of every move list.
+pub fn find(scheme: u32, relays: &[u32], tablets: &[u32], t: ring::TabletNumber) -> rule::Reply
+    ensures { λ reply. ⌜ ((moves : List ℕ) → Answers (after scheme (now (relays .entry)) (now (tablets .entry)) moves (Find t)) reply (now (relays .entry)) (now (tablets .entry)) moves) ⌝ }
+{
+    let l = look::look(scheme, relays, tablets);
+    let refusal = l.refusal;
+    let right = rule::done(refusal);
+    if !right {
+        return rule::refused(refusal);
+    }
+    let n = l.n;
+    let m = l.m;
+    let survey = l.survey;
+    let seat = seat::seat_of(tablets, n, m, &survey.home, &survey.slot, t);
+    let wrong = seat.refusal;
+    let there = rule::done(wrong);
+    if !there {
+        return rule::refused(wrong);
+    }
+    rule::Reply {
+        refusal: rule::Refusal::Done,
+        relay: seat.relay,
+        passed: seat.passed,
+        moves: 0,
+    }
+}

@@ -1,0 +1,3 @@
+pub mod Counting
+pub mod Sweeping
+pub mod Sitting

@@ -1,0 +1,35 @@
+-- `holes::fill` meets its contract: nobody of the chain is the tablet that leaves, so it is the same whether it leaves first or last.
+-- Assumes nothing.
+use Rattle.holes.proofs.Sitting.{filled-climbs, filled-there, filled-from}
+use borrow.Author.Needs.{needs}
+use Rattle.holes.proofs.fill.Statement.{statement}
+use Rattle.holes.proofs.fill.Tie as tie
+
+tablet-relay-requires : tie.Need-tablet-relay-requires
+tablet-relay-requires c κs = search needs
+
+sit-down-requires : tie.Need-sit-down-requires
+sit-down-requires c κs = search needs
+
+delete-tablet-requires : tie.Need-delete-tablet-requires
+delete-tablet-requires c κs = (c .before .before .before .before .before .before .before .before .before .before .before .before .pre .1, filled-there (c .before .before .before .before .before .before .before .before .before .before .before .before .pre .0) (c .before .before .before .before .before .before .before .before .before .before .before .before .pre .1) (c .before .before .before .before .before .before .before .before .before .before .before .before .pre .2) _ (c .before .before .before .before .before .sit-down .ensures .0), filled-climbs (c .before .before .before .before .before .before .before .before .before .before .before .before .pre .0) (c .before .before .before .before .before .before .before .before .before .before .before .before .pre .1) (c .before .before .before .before .before .before .before .before .before .before .before .before .pre .2) _ (c .before .before .before .before .before .sit-down .ensures .0))
+
+same-length : tie.Need-same-length
+same-length c = search needs
+
+same-length-2 : tie.Need-same-length-2
+same-length-2 c = search needs
+
+returns : tie.Need-returns
+returns c = filled-from (c .before .before .before .before .before .before .before .before .before .before .before .before .before .before .before .pre .0) (c .before .before .before .before .before .before .before .before .before .before .before .before .before .before .before .pre .1) (c .before .before .before .before .before .before .before .before .before .before .before .before .before .before .before .pre .2) _ (c .before .before .before .before .before .before .before .before .sit-down .ensures .0) (c .before .before .delete-tablet .ensures) (c .before .before .before .before .before .before .before .before .sit-down .ensures .1) (c .before .before .before .before .before .before .before .before .before .before .before .tablet-relay .ensures)
+
+pub fill-spec : {M : Type 1} → statement M
+fill-spec =
+    tie.close
+    (tie.spec
+    tablet-relay-requires
+    sit-down-requires
+    delete-tablet-requires
+    same-length
+    same-length-2
+    returns)

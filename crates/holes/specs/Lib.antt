@@ -1,0 +1,2 @@
+pub mod Holes
+pub mod Filling

@@ -1,0 +1,59 @@
+-- Right tables as the paper's tables of their entries, for a call that leaves one as it is, or writes it.
+--   relays-whole, relays-zeros, tablets-whole, tablets-zeros    whole places, and zeros behind the entries
+--   relays-stay, tablets-stay                                   a table that is not written is the table of its entries
+-- Assumes nothing.
+use mathlib.Core.Bool.{Bool, true, _&&_}
+use mathlib.Core.Path.{_≡_, sym, ap, _∙_}
+use mathlib.Core.List.{List}
+use Prim.Native.Nat.{ℕ}
+use lib.Dec.{leb}
+use lib.ListN.{length}
+use Rattle.ring.specs.Scheme.{positions}
+use Rattle.ring.proofs.Tests.{and-left, and-right}
+use Rattle.rule.specs.Entry.{Entry}
+use Rattle.rule.specs.Rule.{Ring}
+use Rattle.lent.specs.Table.{mostRelays, relayPlaces, relayNumber, relayLimit, relayWhole, mostTablets, tabletPlaces, tabletNumber, tabletRelay, tabletWhole}
+use Rattle.lent.specs.Shape.{topLimit, topNumber, shape, relaysUsed, tabletsUsed, relayFits, tabletFits, relayShape, tabletShape}
+use Rattle.lent.specs.Placing.{placed, right}
+use Rattle.survey.specs.declared.Survey.{Survey}
+use Rattle.meaning.specs.Meaning.{relaysIn, tabletsIn}
+use Rattle.meaning.proofs.Right.{Rises}
+use Rattle.write.specs.Tables.{flat, filled, relayTable, tabletTable}
+use Rattle.write.specs.Places.{Zeros}
+use Rattle.write.proofs.Filled.{relays-filled, tablets-filled}
+use Rattle.look.specs.Start.{Start}
+use Rattle.look.proofs.Refusing.{start-rises}
+
+module _ {s : ℕ} {rs ts : List ℕ} {n m : ℕ} {v : Survey} (b : Start s rs ts n m v) where
+  rises : Rises (positions s) rs ts n m
+  rises = start-rises b
+
+  shapes : ((relayWhole rs && leb (relayPlaces rs) mostRelays) ≡ true) × ((tabletWhole ts && leb (tabletPlaces ts) mostTablets) ≡ true)
+  unfolding right relayShape tabletShape relayFits tabletFits
+  shapes =
+      let k₁ : Bool = relayFits rs in
+      let k₂ : Bool = shape topLimit (relayNumber rs) (relayLimit rs) (relaysUsed rs) (relayPlaces rs) in
+      let k₃ : Bool = tabletFits ts in
+      let k₄ : Bool = shape topNumber (tabletNumber ts) (tabletRelay ts) (tabletsUsed ts) (tabletPlaces ts) in
+      let k₅ : Bool = placed (positions s) rs ts (relaysUsed rs) (tabletsUsed ts) in
+      (and-left k₁ k₂ (and-left (k₁ && k₂) ((k₃ && k₄) && k₅) (b .right)), and-left k₃ k₄ (and-left (k₃ && k₄) k₅ (and-right (k₁ && k₂) ((k₃ && k₄) && k₅) (b .right))))
+
+  pub relays-whole : relayWhole rs ≡ true
+  relays-whole = and-left (relayWhole rs) (leb (relayPlaces rs) mostRelays) (shapes .0)
+
+  pub tablets-whole : tabletWhole ts ≡ true
+  tablets-whole = and-left (tabletWhole ts) (leb (tabletPlaces ts) mostTablets) (shapes .1)
+
+  pub relays-zeros : Zeros (relayNumber rs) (relayLimit rs) n (relayPlaces rs)
+  relays-zeros = record { numbers = λ i h k. rises .relaysRest i h .0; besides = λ i h k. rises .relaysRest i h .1 }
+
+  pub tablets-zeros : Zeros (tabletNumber ts) (tabletRelay ts) m (tabletPlaces ts)
+  tablets-zeros = record { numbers = λ i h k. rises .tabletsRest i h .0; besides = λ i h k. rises .tabletsRest i h .1 }
+
+  pub relays-stay : (g : Ring) → g .relays ≡ relaysIn rs n → rs ≡ relayTable (length rs) g
+  unfolding relayTable
+  relays-stay g e = relays-filled rs n relays-whole (rises .relaysFit .there) relays-zeros ∙ ap (λ (l : List Entry). filled (length rs) (flat l)) (sym e)
+
+  pub tablets-stay : (g : Ring) → g .tablets ≡ tabletsIn ts m → ts ≡ tabletTable (length ts) g
+  unfolding tabletTable
+  tablets-stay g e = tablets-filled ts m tablets-whole (rises .tabletsFit .there) tablets-zeros ∙ ap (λ (l : List Entry). filled (length ts) (flat l)) (sym e)

@@ -1,0 +1,28 @@
+-- The two ways on from a look.
+--   look-start      it is done: what was found
+--   look-answers    it is refused, and so is the call
+-- Assumes nothing.
+use mathlib.Core.Bool.{Bool, true, false, not}
+use mathlib.Core.Path.{_≡_, sym, _∙_}
+use mathlib.Core.List.{List}
+use Prim.Native.Nat.{ℕ}
+use Rattle.ring.proofs.Tests.{not-false}
+use Rattle.rule.specs.declared.Call.{Call}
+use Rattle.rule.specs.declared.Reply.{Reply}
+use Rattle.rule.specs.Refusals.{isDone, refusedBy}
+use Rattle.meaning.specs.Meaning.{Words}
+use Rattle.look.specs.declared.Looked.{Looked}
+use Rattle.look.specs.Promise.{after, Answers}
+use Rattle.look.specs.Start.{Start, Looks}
+use Rattle.look.proofs.Checked.{not-true}
+use Rattle.look.proofs.Refusing.{look-refused, refused-answers}
+
+module _ {s : ℕ} {rs ts : List ℕ} {l : Looked} (k : Looks s rs ts l) {done : Bool} (e : done ≡ isDone (l .refusal)) where
+  pub look-start : not done ≡ false → Start s rs ts (l .n) (l .m) (l .survey)
+  look-start h = k .start (sym e ∙ not-false done h)
+
+  pub look-answers : Words rs → Words ts → not done ≡ true → {reply : Reply} → reply ≡ refusedBy (l .refusal) → (c : Call) (ms : List ℕ)
+      → Answers (after s rs ts ms c) reply rs ts ms
+  look-answers wr wt h {reply} er c ms =
+      let no : isDone (l .refusal) ≡ false = sym e ∙ not-true h in
+      refused-answers s rs ts ms c (l .refusal) (look-refused s rs ts ms c wr wt (l .refusal) (sym (k .refusal)) no) no reply er

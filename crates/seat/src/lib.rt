@@ -1,0 +1,67 @@
+// A tablet's seat (document 01, "Replies"): its place in the table, its relay, and how many relays come before that in its clockwise
+// order, which are the steps from its home to its relay's slot.
+ghost use mathlib.Core.Path.{_≡_};
+ghost use Prim.Native.Nat.{_≤_};
+ghost use lib.Dec.{ltb};
+ghost use Rattle.lent.specs.Table.{mostRelays};
+ghost use Rattle.slots.specs.Slots.{stepsTo};
+ghost use Rattle.seat.specs.Seat.{Seated, SeatOf};
+
+// How many steps clockwise slot k is from slot h, of n.
+pub fn steps_to(n: usize, h: u8, k: u8) -> usize
+    requires { ⌜ (n ≤ mostRelays) × (h ≤ n) ⌝ }
+    ensures { λ r. ⌜ r ≡ stepsTo n h k ⌝ }
+{
+    let from = h as usize;
+    let to = k as usize;
+    if from <= to { to - from } else { to + n - from }
+}
+
+// Had a tablet with its home at slot h and its relay at slot k passed the relay at another slot?
+pub fn had_passed(n: usize, h: u8, k: u8, other: u8) -> bool
+    requires { ⌜ (n ≤ mostRelays) × (h ≤ n) ⌝ }
+    ensures { λ r. ⌜ r ≡ ltb (stepsTo n h other) (stepsTo n h k) ⌝ }
+{
+    steps_to(n, h, other) < steps_to(n, h, k)
+}
+
+// Why there is no seat, or that there is one, and then the seat.
+pub struct Seat {
+    pub refusal: rule::Refusal,
+    pub at: usize,
+    pub relay: u32,
+    pub passed: u32,
+}
+
+// The seat of tablet t among the m in use, where `home` and `slot` have the homes and the relays' slots.
+pub fn seat_of<'a>(
+    tablets: &[u32],
+    n: usize,
+    m: usize,
+    home: &'a [u8; 4096],
+    slot: &'a [u8; 4096],
+    t: ring::TabletNumber,
+) -> Seat
+    requires { ⌜ Seated (now tablets) n m (now home) (now slot) ⌝ }
+    ensures { λ s. ⌜ SeatOf (now (tablets .entry)) n m (now (home .entry)) (now (slot .entry)) (t .0) s ⌝ }
+{
+    let at = spot::tablet_spot(tablets, m, t);
+    let there = spot::tablet_there(tablets, m, at, t);
+    let refusal = spot::missing(t.0, there);
+    let fine = rule::done(refusal);
+    if !fine {
+        return Seat {
+            refusal: refusal,
+            at: 0,
+            relay: 0,
+            passed: 0,
+        };
+    }
+    let passed = steps_to(n, home[at], slot[at]);
+    Seat {
+        refusal: refusal,
+        at: at,
+        relay: lent::tablet_relay(tablets, at).0,
+        passed: passed as u32,
+    }
+}

@@ -1,0 +1,106 @@
+-- `withdraw::withdraw` meets its contract. A look that is refused refuses the withdrawal, and so do a number that is zero or not there and a
+-- move list that is too short; past these those who fill the holes have sat down, and the tablet is taken out. Assumes nothing.
+use native.Mathlib.Omega.{arith}
+use Rattle.look.proofs.Checked.{words-of}
+use Rattle.look.proofs.Ways.{look-start, look-answers}
+use Rattle.seat.proofs.Passing.{start-seated}
+use Rattle.seat.proofs.Standing.{missing-withdraw, seat-refused}
+use Rattle.withdraw.proofs.Known.{start-sweeps}
+use Rattle.withdraw.proofs.Withdrawing.{stands, withdraw-short, withdraw-fillers, withdraw-done}
+use borrow.Author.Needs.{needs}
+use Rattle.withdraw.proofs.withdraw.Statement.{statement}
+use Rattle.withdraw.proofs.withdraw.Tie as tie
+
+look-requires : tie.Need-look-requires
+look-requires c κs = search needs
+
+done-requires : tie.Need-done-requires
+done-requires c κs = search needs
+
+refused-requires : tie.Need-refused-requires
+refused-requires c κs = search needs
+
+same-length : tie.Need-same-length
+same-length c = search needs
+
+returns : tie.Need-returns
+returns c = look-answers (c .before .before .before .look .ensures) (c .before .before .done .ensures) (words-of _ (c .before .before .before .before .before .before .before .shared-slice-known .given)) (words-of _ (c .before .before .before .before .before .before .slice-known .given)) (c .before .if1 .taken) (c .refused .ensures) _ _
+
+seat-of-requires : tie.Need-seat-of-requires
+seat-of-requires c κs = start-seated (look-start (c .before .before .before .before .before .before .before .look .ensures) (c .before .before .before .before .before .before .done .ensures) (c .before .before .before .before .before .if1 .left))
+
+done-requires-2 : tie.Need-done-requires-2
+done-requires-2 c κs = search needs
+
+refused-requires-2 : tie.Need-refused-requires-2
+refused-requires-2 c κs = search needs
+
+same-length-2 : tie.Need-same-length-2
+same-length-2 c = search needs
+
+returns-2 : tie.Need-returns-2
+returns-2 c =
+    let b = look-start (c .before .before .before .before .before .before .before .before .before .before .before .look .ensures) (c .before .before .before .before .before .before .before .before .before .before .done .ensures) (c .before .before .before .before .before .before .before .before .before .if1 .left) in
+    seat-refused b _ (c .before .before .before .seat-of .ensures) (c .before .before .done2 .ensures) (c .before .if2 .taken) (c .refused2 .ensures) _ (missing-withdraw b _) _
+
+holes-requires : tie.Need-holes-requires
+holes-requires c κs =
+    let b = look-start (c .before .before .before .before .before .before .before .before .before .before .before .before .before .before .before .look .ensures) (c .before .before .before .before .before .before .before .before .before .before .before .before .before .before .done .ensures) (c .before .before .before .before .before .before .before .before .before .before .before .before .before .if1 .left) in
+    (start-sweeps b, stands b _ (c .before .before .before .before .before .before .before .seat-of .ensures) (c .before .before .before .before .before .before .done2 .ensures) (c .before .before .before .before .before .if2 .left) .below)
+
+refused-requires-3 : tie.Need-refused-requires-3
+refused-requires-3 c κs = search needs
+
+same-length-3 : tie.Need-same-length-3
+same-length-3 c = search needs
+
+returns-3 : tie.Need-returns-3
+returns-3 c =
+    let b = look-start (c .before .before .before .before .before .before .before .before .before .before .before .before .before .before .before .before .before .before .look .ensures) (c .before .before .before .before .before .before .before .before .before .before .before .before .before .before .before .before .before .done .ensures) (c .before .before .before .before .before .before .before .before .before .before .before .before .before .before .before .before .if1 .left) in
+    withdraw-short b _ (c .before .before .before .before .before .before .before .before .before .before .seat-of .ensures) (c .before .before .before .before .before .before .before .before .before .done2 .ensures) (c .before .before .before .before .before .before .before .before .if2 .left) (c .before .before .holes .ensures) _ (c .before .if3 .taken) (c .refused3 .ensures)
+
+fill-requires : tie.Need-fill-requires
+fill-requires c κs =
+    let b = look-start (c .before .before .before .before .before .before .before .before .before .before .before .before .before .before .before .before .before .before .before .before .before .look .ensures) (c .before .before .before .before .before .before .before .before .before .before .before .before .before .before .before .before .before .before .before .before .done .ensures) (c .before .before .before .before .before .before .before .before .before .before .before .before .before .before .before .before .before .before .before .if1 .left) in (
+      withdraw-fillers b _ (c .before .before .before .before .before .before .before .before .before .before .before .before .before .seat-of .ensures) (c .before .before .before .before .before .before .before .before .before .before .before .before .done2 .ensures) (c .before .before .before .before .before .before .before .before .before .before .before .if2 .left) (c .before .before .before .before .before .holes .ensures) _ (omega (arith, c .before .before .before .before .if3 .left)),
+      stands b _ (c .before .before .before .before .before .before .before .before .before .before .before .before .before .seat-of .ensures) (c .before .before .before .before .before .before .before .before .before .before .before .before .done2 .ensures) (c .before .before .before .before .before .before .before .before .before .before .before .if2 .left) .below,
+      c .before .before .before .before .before .holes .ensures .climbs,
+    )
+
+cast-t40 : tie.Need-cast-t40
+cast-t40 c = search needs
+
+same-length-4 : tie.Need-same-length-4
+same-length-4 c = search needs
+
+same-length-5 : tie.Need-same-length-5
+same-length-5 c = search needs
+
+returns-4 : tie.Need-returns-4
+returns-4 c =
+    let b = look-start (c .before .before .before .before .before .before .before .before .before .before .before .before .before .before .before .before .before .before .before .before .before .before .before .before .before .before .look .ensures) (c .before .before .before .before .before .before .before .before .before .before .before .before .before .before .before .before .before .before .before .before .before .before .before .before .before .done .ensures) (c .before .before .before .before .before .before .before .before .before .before .before .before .before .before .before .before .before .before .before .before .before .before .before .before .if1 .left) in
+    withdraw-done b _ (c .before .before .before .before .before .before .before .before .before .before .before .before .before .before .before .before .before .before .seat-of .ensures) (c .before .before .before .before .before .before .before .before .before .before .before .before .before .before .before .before .before .done2 .ensures) (c .before .before .before .before .before .before .before .before .before .before .before .before .before .before .before .before .if2 .left) (c .before .before .before .before .before .before .before .before .before .before .holes .ensures) _ (omega (arith, c .before .before .before .before .before .before .before .before .before .if3 .left)) (c .before .before .before .before .fill .ensures)
+
+pub withdraw-spec : {M : Type 1} → statement M
+withdraw-spec =
+    tie.close
+    (tie.spec
+    look-requires
+    done-requires
+    refused-requires
+    same-length
+    returns
+    seat-of-requires
+    done-requires-2
+    refused-requires-2
+    same-length-2
+    returns-2
+    holes-requires
+    refused-requires-3
+    same-length-3
+    returns-3
+    fill-requires
+    cast-t40
+    same-length-4
+    same-length-5
+    returns-4)

@@ -1,0 +1,53 @@
+// The call that withdraws a tablet (document 01, "The rule of placement", "Replies").
+ghost use Rattle.rule.specs.declared.Call.the-variants.{Withdraw};
+ghost use Rattle.look.specs.Promise.{after, Answers};
+
+// The tablet is taken out, and those who fill the holes move. The reply has its relay and how many relays it had passed, both taken
+// before the call.
+pub fn withdraw(
+    scheme: u32,
+    relays: &[u32],
+    tablets: &mut [u32],
+    moves: &mut [u32],
+    t: ring::TabletNumber,
+) -> rule::Reply
+    ensures { λ reply. ⌜ Answers (after scheme (now (relays .entry)) (now (tablets .entry)) (now (moves .entry)) (Withdraw t)) reply (now (relays .entry)) (now (tablets .exit)) (now (moves .exit)) ⌝ }
+{
+    let l = look::look(scheme, relays, tablets);
+    let refusal = l.refusal;
+    let right = rule::done(refusal);
+    if !right {
+        return rule::refused(refusal);
+    }
+    let n = l.n;
+    let m = l.m;
+    let survey = l.survey;
+    let seat = seat::seat_of(tablets, n, m, &survey.home, &survey.slot, t);
+    let wrong = seat.refusal;
+    let there = rule::done(wrong);
+    if !there {
+        return rule::refused(wrong);
+    }
+    let at = seat.at;
+    let chain = holes::holes(
+        &survey.keys,
+        &survey.room,
+        &survey.home,
+        &survey.slot,
+        n,
+        m,
+        at,
+    );
+    let count = chain.count;
+    if moves.len() / 3 < count {
+        return rule::refused(rule::Refusal::MoveListTooShort);
+    }
+    let places = chain.places;
+    holes::fill(tablets, moves, m, at, &places, count);
+    rule::Reply {
+        refusal: rule::Refusal::Done,
+        relay: seat.relay,
+        passed: seat.passed,
+        moves: count as u32,
+    }
+}
