@@ -1,3 +1,4 @@
+pub mod Binding
 pub mod Checked
 pub mod Refusing
 pub mod Stays
