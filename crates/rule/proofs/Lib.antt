@@ -1,5 +1,6 @@
 -- The laws of placement, each file above those that it cites.
 pub mod Drill
+pub mod Examples
 pub mod Rooms
 pub mod Sets
 pub mod Counts
