@@ -49,7 +49,7 @@ fn nearer(keys: &[u64; 256], room: &[u32; 256], n: usize, k: usize, after: u8) -
     }
 }
 
-fn first_row(keys: &[u64; 256], room: &[u32; 256], n: usize) -> [u8; 256]
+pub fn first_row(keys: &[u64; 256], room: &[u32; 256], n: usize) -> [u8; 256]
     requires { ⌜ n ≤ mostRelays ⌝ }
     ensures { λ r. ⌜ Row (now (keys .entry)) (now (room .entry)) n 0 r ⌝ }
 {

@@ -1,0 +1,160 @@
+// What another relay table does to the tablets (document 01, "The rule of placement"): which of them move, whether that is refused, and the
+// writing of it. A plan is made before anything is written.
+ghost use mathlib.Core.Bool.{cond};
+ghost use mathlib.Core.Path.{_≡_};
+ghost use Prim.Native.Nat.{_+_, _<_};
+ghost use lib.Dec.{eqb};
+ghost use lib.ListN.{length, getD};
+ghost use Rattle.ring.specs.Scheme.{positions};
+ghost use Rattle.rule.specs.Entry.{total};
+ghost use Rattle.lent.specs.Table.{relayPlaces, relayNumber, mostTablets, tabletPlaces, tabletRelay};
+ghost use Rattle.meaning.specs.Meaning.{relaysIn};
+ghost use Rattle.plan.specs.Changes.{newRelay, changesTo};
+ghost use Rattle.plan.specs.Plan.{Limited, Plans, Seated, Planned};
+ghost use Rattle.plan.specs.Carried.{Moves, Moved, Carries, Carried};
+
+pub struct Plan {
+    pub refusal: rule::Refusal,
+    pub moves: u32,
+    pub relay: [u8; 4096],
+}
+
+fn from_u8(x: u8) -> usize
+    ensures { λ r. ⌜ r ≡ x ⌝ }
+{
+    x as usize
+}
+
+fn from_u32(x: u32) -> usize
+    ensures { λ r. ⌜ r ≡ x ⌝ }
+{
+    x as usize
+}
+
+// ---- whether the limits suffice
+
+// The limits of the n relays together.
+fn limit_sum(relays: &[u32], n: usize) -> usize
+    requires { ⌜ Limited (now relays) n ⌝ }
+    ensures { λ r. ⌜ r ≡ total (relaysIn (now (relays .entry)) n) ⌝ }
+{
+    let mut sum: usize = 0;
+    let mut i: usize = 0;
+    while i < n {
+        sum += from_u32(lent::relay_limit(relays, i));
+        i += 1;
+    }
+    sum
+}
+
+// ---- how many move
+
+// 1 where tablet j is to have another relay than is written beside it.
+fn one_if_moves(relays: &[u32], relay: &[u8; 4096], tablets: &[u32], j: usize) -> usize
+    requires { ⌜ (j < mostTablets) × (j < tabletPlaces (now tablets)) × (getD (now relay) j 0 < relayPlaces (now relays)) ⌝ }
+    ensures { λ r. ⌜ r ≡ cond (eqb (tabletRelay (now (tablets .entry)) j) (newRelay (now (relays .entry)) (now (relay .entry)) j)) 0 1 ⌝ }
+{
+    let i = from_u8(relay[j]);
+    let new = lent::relay_number(relays, i);
+    let old = lent::tablet_relay(tablets, j);
+    if old.0 == new.0 { 0 } else { 1 }
+}
+
+fn count_moves(relays: &[u32], relay: &[u8; 4096], tablets: &[u32], m: usize) -> usize
+    requires { ⌜ Seated (now relays) (now relay) (now tablets) m ⌝ }
+    ensures { λ r. ⌜ r ≡ length (changesTo (now (relays .entry)) (now (relay .entry)) (now (tablets .entry)) m) ⌝ }
+{
+    let mut c: usize = 0;
+    let mut j: usize = 0;
+    while j < m {
+        c += one_if_moves(relays, relay, tablets, j);
+        j += 1;
+    }
+    c
+}
+
+// ---- the plan
+
+// A refusal, with nothing planned.
+fn no_plan(refusal: rule::Refusal) -> Plan
+    ensures { λ r. ⌜ r .refusal ≡ refusal ⌝ }
+{
+    Plan {
+        refusal: refusal,
+        moves: 0,
+        relay: [0u8; 4096],
+    }
+}
+
+// What the n relays do to the m tablets, for a move list of so many places.
+pub fn work_out(
+    scheme: u32,
+    relays: &[u32],
+    tablets: &[u32],
+    n: usize,
+    m: usize,
+    places: usize,
+) -> Plan
+    requires { ⌜ Plans (now relays) (now tablets) n m ⌝ }
+    ensures { λ r. ⌜ Planned (positions scheme) (now (relays .entry)) (now (tablets .entry)) n m places r ⌝ }
+{
+    if limit_sum(relays, n) < m {
+        return no_plan(rule::Refusal::LimitsTooSmall);
+    }
+    let relay = refill::refill(scheme, relays, tablets, n, m);
+    let count = count_moves(relays, &relay, tablets, m);
+    if places < count {
+        return no_plan(rule::Refusal::MoveListTooShort);
+    }
+    let moves = count as u32;
+    Plan {
+        refusal: rule::Refusal::Done,
+        moves: moves,
+        relay: relay,
+    }
+}
+
+// ---- the writing
+
+// Tablet j gets the relay at place i. Where that is another than it had, the move is listed as the c-th; the answer is where the next one goes.
+fn move_one(
+    relays: &[u32],
+    tablets: &mut [u32],
+    moves: &mut [u32],
+    i: usize,
+    j: usize,
+    c: usize,
+) -> usize
+    requires { ⌜ Moves (now relays) (now tablets) (now moves) i j c ⌝ }
+    ensures { λ r. ⌜ Moved (now (relays .entry)) (now (tablets .entry)) (now (tablets .exit)) (now (moves .entry)) (now (moves .exit)) i j c r ⌝ }
+{
+    let old = lent::tablet_relay(tablets, j);
+    let new = lent::relay_number(relays, i);
+    if old.0 == new.0 {
+        return c;
+    }
+    let t = lent::tablet_number(tablets, j);
+    write::list_move(moves, c, t.0, old.0, new.0);
+    write::set_tablet_relay(tablets, j, new);
+    c + 1
+}
+
+// Every tablet gets the relay that the array gives the place of, and the moves are listed.
+pub fn carry_out(
+    relays: &[u32],
+    relay: &[u8; 4096],
+    tablets: &mut [u32],
+    moves: &mut [u32],
+    m: usize,
+)
+    requires { ⌜ Carries (now relays) (now relay) (now tablets) (now moves) m ⌝ }
+    ensures { λ _. ⌜ Carried (now (relays .entry)) (now (relay .entry)) (now (tablets .entry)) (now (tablets .exit)) (now (moves .entry)) (now (moves .exit)) m ⌝ }
+{
+    let mut c: usize = 0;
+    let mut j: usize = 0;
+    while j < m {
+        let i = from_u8(relay[j]);
+        c = move_one(relays, tablets, moves, i, j, c);
+        j += 1;
+    }
+}
