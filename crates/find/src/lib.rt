@@ -17,8 +17,7 @@ pub fn find(scheme: u32, relays: &[u32], tablets: &[u32], t: ring::TabletNumber)
     }
     let n = l.n;
     let m = l.m;
-    let survey = l.survey;
-    let seat = seat::seat_of(tablets, n, m, &survey.home, &survey.slot, t);
+    let seat = seat::seat_of(tablets, n, m, &l.survey.home, &l.survey.slot, t);
     let wrong = seat.refusal;
     let there = rule::done(wrong);
     if !there {

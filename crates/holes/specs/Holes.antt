@@ -3,41 +3,42 @@
 use mathlib.Core.Bool.{Bool, true, false}
 use mathlib.Core.List.{List, [], _∷_}
 use mathlib.Core.Path.{_≡_}
-use Prim.Native.Nat.{ℕ, zero, suc, _-_, _≤_, _<_}
+use Prim.Native.Nat.{ℕ, zero, suc, _+_, _-_, _%_, _≤_, _<_}
 use lib.Dec.{ltb}
 use lib.ListN.{length, getD, take}
 use Rattle.lent.specs.Table.{mostRelays, mostTablets}
 use Rattle.survey.specs.Row.{slotRoom}
-use Rattle.slots.specs.Slots.{stepsTo}
 use Rattle.holes.specs.declared.Chain.{Chain}
 
--- the tablet at place i had passed the relay at slot k: that is fewer steps from its home than its own
-unfoldable pub passedAt : ℕ → List ℕ → List ℕ → ℕ → ℕ → Bool
-passedAt n home slot k i = ltb (stepsTo n (getD home i 0) k) (stepsTo n (getD home i 0) (getD slot i 0))
+-- how many slots slot k is clockwise from slot h, on a ring of as many as there may be relays
+unfoldable pub around : ℕ → ℕ → ℕ
+around h k = (k + (mostRelays - h)) % mostRelays
 
--- of so many tablets from place j on, those who move where there is a hole at slot k: the first that had passed it takes it, and leaves its own
-unfoldable pub movers : ℕ → List ℕ → List ℕ → ℕ → ℕ → ℕ → List ℕ
-movers n home slot k j zero = []
-movers n home slot k j (suc left) =
-    elim (passedAt n home slot k j) [ true ↦ j ∷ movers n home slot (getD slot j 0) (suc j) left | false ↦ movers n home slot k (suc j) left ]
+-- the tablet at place j had passed the relay of the tablet at place i: that is nearer to its home than its own
+unfoldable pub passedAt : List ℕ → List ℕ → ℕ → ℕ → Bool
+passedAt home slot i j = ltb (around (getD home j 0) (getD slot i 0)) (around (getD home j 0) (getD slot j 0))
 
--- what the sweep knows of right tables with n relays and m tablets
-pub record Sweeps (keys room home slot : List ℕ) (n m : ℕ) : Type 0 where
-  pub relaysFew : n ≤ mostRelays
-  pub tabletsFew : m ≤ mostTablets
-  pub homes : (j : ℕ) → j < m → getD home j 0 ≤ n
-  pub slots : (j : ℕ) → j < m → getD slot j 0 < n
+-- of so many tablets from place j on, those who move when the tablet at place i leaves its relay: the first that had passed it takes the
+-- hole, and leaves its own
+unfoldable pub movers : List ℕ → List ℕ → ℕ → ℕ → ℕ → List ℕ
+movers home slot i j zero = []
+movers home slot i j (suc left) = elim (passedAt home slot i j) [ true ↦ j ∷ movers home slot j (suc j) left | false ↦ movers home slot i (suc j) left ]
+
+-- what the sweep knows of right tables with m tablets
+pub record Sweeps (keys room home slot : List ℕ) (m : ℕ) : Type 0 where
+  pub few : m ≤ mostTablets
+  pub slots : (j : ℕ) → j < m → getD slot j 0 < mostRelays
   -- nobody had passed a relay with room
-  pub roomy : (k : ℕ) → k < n → 0 < slotRoom keys room k → (j : ℕ) → j < m → passedAt n home slot k j ≡ false
+  pub roomy : (i j : ℕ) → i < m → j < m → 0 < slotRoom keys room (getD slot i 0) → passedAt home slot i j ≡ false
   -- who had passed a relay has a greater number than all tablets there
-  pub shut : (k j i : ℕ) → k < n → passedAt n home slot k j ≡ true → j ≤ i → i < m → getD slot i 0 ≡ k → ⊥
+  pub shut : (i j l : ℕ) → i < m → passedAt home slot i j ≡ true → j ≤ l → l < m → getD slot l 0 ≡ getD slot i 0 → ⊥
 
--- r is the first place from `from` on, of m, whose tablet had passed slot k, and m where none had
-pub record Next (n : ℕ) (home slot : List ℕ) (m k from r : ℕ) : Type 0 where
-  pub low : from ≤ r
+-- r is the first place behind place i, of m, whose tablet had passed the relay of the tablet there, and m where none had
+pub record Next (home slot : List ℕ) (m i r : ℕ) : Type 0 where
+  pub low : i < r
   pub high : r ≤ m
-  pub none : (i : ℕ) → from ≤ i → i < r → passedAt n home slot k i ≡ false
-  pub some : r < m → passedAt n home slot k r ≡ true
+  pub none : (j : ℕ) → i < j → j < r → passedAt home slot i j ≡ false
+  pub some : r < m → passedAt home slot i r ≡ true
 
 -- so many places that rise, between two
 pub record Climbing (places : List ℕ) (count low high : ℕ) : Type 0 where
@@ -46,8 +47,8 @@ pub record Climbing (places : List ℕ) (count low high : ℕ) : Type 0 where
   pub up : (c d : ℕ) → c < d → d < count → getD places c 0 < getD places d 0
 
 -- the chain has those who move when the tablet at place `at` leaves its relay
-pub record Chains (n : ℕ) (home slot : List ℕ) (m at : ℕ) (chain : Chain) : Type 0 where
+pub record Chains (home slot : List ℕ) (m at : ℕ) (chain : Chain) : Type 0 where
   pub size : length (chain .places) ≡ mostRelays
   pub few : chain .count ≤ mostRelays
   pub climbs : Climbing (chain .places) (chain .count) at m
-  pub are : take (chain .count) (chain .places) ≡ movers n home slot (getD slot at 0) (suc at) (m - suc at)
+  pub are : take (chain .count) (chain .places) ≡ movers home slot at (suc at) (m - suc at)

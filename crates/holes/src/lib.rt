@@ -1,11 +1,12 @@
 // The holes of a withdrawal (document 01, "The rule of placement"): who takes the hole at a relay, and so on from hole to hole, and
 // how they sit down.
 ghost use mathlib.Core.Path.{_≡_};
-ghost use Prim.Native.Nat.{ℕ, _≤_, _<_};
-ghost use lib.ListN.{getD, take};
-ghost use Rattle.lent.specs.Table.{mostRelays, mostTablets, tabletRelay};
+ghost use Prim.Native.Nat.{_≤_, _<_};
+ghost use lib.Dec.{ltb};
+ghost use lib.ListN.{take};
+ghost use Rattle.lent.specs.Table.{mostTablets, tabletRelay};
 ghost use Rattle.write.specs.Tables.{listed};
-ghost use Rattle.holes.specs.Holes.{Next, Sweeps, Climbing, Chains};
+ghost use Rattle.holes.specs.Holes.{around, Next, Sweeps, Climbing, Chains};
 ghost use Rattle.holes.specs.Filling.{movesOf, Fillers, SatDown, Filled};
 
 // ---- who moves
@@ -16,21 +17,29 @@ pub struct Chain {
     pub places: [u16; 256],
 }
 
-// The first place from `from` on, of m, whose tablet had passed the relay at slot `hole`; m where none had.
-fn next_passed<'a>(
-    home: &'a [u8; 4096],
-    slot: &'a [u8; 4096],
-    n: usize,
-    m: usize,
-    from: usize,
-    hole: u8,
-) -> usize
-    requires { ⌜ (n ≤ mostRelays) × (m ≤ mostTablets) × (from ≤ m) × ((j : ℕ) → j < m → getD (now home) j 0 ≤ n) ⌝ }
-    ensures { λ r. ⌜ Next n (now (home .entry)) (now (slot .entry)) m hole from r ⌝ }
+fn from_u8(x: u8) -> usize
+    ensures { λ r. ⌜ r ≡ x ⌝ }
 {
-    let mut j = from;
+    x as usize
+}
+
+// Had a tablet with its home at slot h and its relay at slot k passed the relay at another slot? It is the same on a ring of 256 slots,
+// used or not.
+fn had_passed(h: u8, k: u8, other: u8) -> bool
+    ensures { λ r. ⌜ r ≡ ltb (around h other) (around h k) ⌝ }
+{
+    std::num::wrapping_sub_u8(other, h) < std::num::wrapping_sub_u8(k, h)
+}
+
+// The first place behind place i, of m, whose tablet had passed the relay of the tablet there; m where none had.
+fn next_passed<'a>(home: &'a [u8; 4096], slot: &'a [u8; 4096], m: usize, i: usize) -> usize
+    requires { ⌜ (m ≤ mostTablets) × (i < m) ⌝ }
+    ensures { λ r. ⌜ Next (now (home .entry)) (now (slot .entry)) m i r ⌝ }
+{
+    let hole = slot[i];
+    let mut j = i + 1;
     while j < m {
-        if seat::had_passed(n, home[j], slot[j], hole) {
+        if had_passed(home[j], slot[j], hole) {
             break;
         }
         j += 1;
@@ -44,19 +53,17 @@ fn next_mover<'a>(
     room: &'a [u32; 256],
     home: &'a [u8; 4096],
     slot: &'a [u8; 4096],
-    n: usize,
     m: usize,
-    from: usize,
-    hole: u8,
+    i: usize,
 ) -> usize
-    requires { ⌜ Sweeps (now keys) (now room) (now home) (now slot) n m × (from ≤ m) × (hole < n) ⌝ }
-    ensures { λ r. ⌜ Next n (now (home .entry)) (now (slot .entry)) m hole from r ⌝ }
+    requires { ⌜ Sweeps (now keys) (now room) (now home) (now slot) m × (i < m) ⌝ }
+    ensures { λ r. ⌜ Next (now (home .entry)) (now (slot .entry)) m i r ⌝ }
 {
-    let i = order::slot_relay(keys, hole as usize);
-    if 0 < room[i] {
+    let relay = order::slot_relay(keys, from_u8(slot[i]));
+    if 0 < room[relay] {
         m
     } else {
-        next_passed(home, slot, n, m, from, hole)
+        next_passed(home, slot, m, i)
     }
 }
 
@@ -66,22 +73,19 @@ pub fn holes<'a>(
     room: &'a [u32; 256],
     home: &'a [u8; 4096],
     slot: &'a [u8; 4096],
-    n: usize,
     m: usize,
     at: usize,
 ) -> Chain
-    requires { ⌜ Sweeps (now keys) (now room) (now home) (now slot) n m × (at < m) ⌝ }
-    ensures { λ c. ⌜ Chains n (now (home .entry)) (now (slot .entry)) m at c ⌝ }
+    requires { ⌜ Sweeps (now keys) (now room) (now home) (now slot) m × (at < m) ⌝ }
+    ensures { λ c. ⌜ Chains (now (home .entry)) (now (slot .entry)) m at c ⌝ }
 {
     let mut places = [0u16; 256];
     let mut count: usize = 0;
-    let mut hole = slot[at];
-    let mut j = next_mover(keys, room, home, slot, n, m, at + 1, hole);
+    let mut j = next_mover(keys, room, home, slot, m, at);
     while j < m {
         places[count] = j as u16;
         count += 1;
-        hole = slot[j];
-        j = next_mover(keys, room, home, slot, n, m, j + 1, hole);
+        j = next_mover(keys, room, home, slot, m, j);
     }
     Chain {
         count: count,

@@ -1,5 +1,5 @@
 -- What a look has found tells how far each tablet is from its home.
---   home-within, slot-within, slot-relay    of tablet j the home, its relay's slot, and the relay there
+--   home-within, home-byte, slot-within, slot-relay    of tablet j the home, its relay's slot, and the relay there
 --   start-seated    so a seat can be worked out
 --   ahead-steps     the relays ahead of its own are as many as the steps from its home to its relay's slot
 --   passed-steps    it had passed a relay that is fewer steps from its home than its own
@@ -67,6 +67,9 @@ module _ {s : ℕ} {rs ts : List ℕ} {n m : ℕ} {v : Survey} (b : Start s rs t
 
     pub home-within : getD (v .home) j 0 ≤ n
     home-within = omega (arith, at-home .is, at-home .home .begins .within)
+
+    pub home-byte : getD (v .home) j 0 < mostRelays
+    home-byte = omega (arith, at-home .is)
 
     pub slot-within : getD (v .slot) j 0 < n
     slot-within = b .surveyed .seats .inside j h

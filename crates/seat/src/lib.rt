@@ -2,7 +2,6 @@
 // order, which are the steps from its home to its relay's slot.
 ghost use mathlib.Core.Path.{_≡_};
 ghost use Prim.Native.Nat.{_≤_};
-ghost use lib.Dec.{ltb};
 ghost use Rattle.lent.specs.Table.{mostRelays};
 ghost use Rattle.slots.specs.Slots.{stepsTo};
 ghost use Rattle.seat.specs.Seat.{Seated, SeatOf};
@@ -15,14 +14,6 @@ pub fn steps_to(n: usize, h: u8, k: u8) -> usize
     let from = h as usize;
     let to = k as usize;
     if from <= to { to - from } else { to + n - from }
-}
-
-// Had a tablet with its home at slot h and its relay at slot k passed the relay at another slot?
-pub fn had_passed(n: usize, h: u8, k: u8, other: u8) -> bool
-    requires { ⌜ (n ≤ mostRelays) × (h ≤ n) ⌝ }
-    ensures { λ r. ⌜ r ≡ ltb (stepsTo n h other) (stepsTo n h k) ⌝ }
-{
-    steps_to(n, h, other) < steps_to(n, h, k)
 }
 
 // Why there is no seat, or that there is one, and then the seat.

@@ -9,7 +9,6 @@ use mathlib.Core.List.{List, [], _∷_, _++_, append-nil, append-assoc}
 use mathlib.Core.Logic.{inl, inr}
 use Prim.Native.Nat.{ℕ, zero, suc, _+_, _-_, _≤_, _<_}
 use native.Mathlib.Omega.{arith}
-use lib.ListN.{getD}
 use Rattle.ring.specs.Scheme.{positions}
 use Rattle.ring.proofs.Tests.{split}
 use Rattle.rule.specs.declared.Move.{Move}
@@ -20,8 +19,7 @@ use Rattle.rule.specs.Sweeps.{holes}
 use Rattle.rule.proofs.Orders.{Among}
 use Rattle.rule.proofs.Puts.{delete-hit, delete-miss}
 use Rattle.rule.proofs.Holing.{holes-take, holes-pass, holes-skip, lower-passed}
-use Rattle.lent.specs.Table.{relayNumber, tabletNumber, tabletRelay}
-use Rattle.order.specs.Keys.{slotRelay}
+use Rattle.lent.specs.Table.{tabletNumber, tabletRelay}
 use Rattle.survey.specs.declared.Survey.{Survey}
 use Rattle.meaning.specs.Meaning.{places, relaysIn, tabletsIn}
 use Rattle.meaning.specs.Ascending.{Ascending}
@@ -29,7 +27,6 @@ use Rattle.meaning.proofs.Places.{beside-places, has-place}
 use Rattle.slots.proofs.Lists.{Indexed, indexed}
 use Rattle.look.specs.Start.{Start}
 use Rattle.look.proofs.Refusing.{start-rises}
-use Rattle.seat.proofs.Passing.{slot-within, slot-relay}
 use Rattle.holes.specs.Holes.{passedAt, movers}
 use Rattle.holes.specs.Filling.{movesOf}
 use Rattle.holes.proofs.Sweeping.{movers-pass, movers-take}
@@ -77,22 +74,19 @@ module _ {s : ℕ} {rs ts : List ℕ} {n m : ℕ} {v : Survey} (b : Start s rs t
   abbrev behind : ℕ → ℕ → List Entry
   behind j left = from (tabletNumber ts) (tabletRelay ts) j left
 
-  movers-holes : (left j k r : ℕ) → j + left ≤ m → k < n → r ≡ relayNumber rs (slotRelay (v .keys) k)
-      → movesOf ts r (movers n (v .home) (v .slot) k j left) ≡ holes (positions s) r (from (tabletNumber ts) (tabletRelay ts) j left)
+  -- the tablet at place i leaves its relay
+  movers-holes : (left i j : ℕ) → i < m → j + left ≤ m
+      → movesOf ts (tabletRelay ts i) (movers (v .home) (v .slot) i j left) ≡ holes (positions s) (tabletRelay ts i) (from (tabletNumber ts) (tabletRelay ts) j left)
   unfolding from movesOf
-  movers-holes zero j k r h c e = unfold movers holes in refl
-  movers-holes (suc left) j k r h c e =
-      split (passedAt n (v .home) (v .slot) k j)
-      (λ p. ap (movesOf ts r) (movers-take n (v .home) (v .slot) k j left p)
-      ∙ ap (λ (l : List Move). record { tablet = tabletNumber ts j; old = tabletRelay ts j; new = r } ∷ l)
-      (movers-holes left (suc j) (getD (v .slot) j 0) (tabletRelay ts j) (omega arith) (slot-within b j (omega arith)) (sym (slot-relay b j (omega arith))))
-      ∙ sym (holes-take (positions s) r (entry (tabletNumber ts j) (tabletRelay ts j)) (behind (suc j) left) (same ∙ p)))
-      (λ p. ap (movesOf ts r) (movers-pass n (v .home) (v .slot) k j left p)
-      ∙ movers-holes left (suc j) k r (omega arith) c e
-      ∙ sym (holes-pass (positions s) r (entry (tabletNumber ts j) (tabletRelay ts j)) (behind (suc j) left) (same ∙ p)))
-    where
-      same : hadPassed (positions s) r (entry (tabletNumber ts j) (tabletRelay ts j)) ≡ passedAt n (v .home) (v .slot) k j
-      same = ap (λ (q : ℕ). hadPassed (positions s) q (entry (tabletNumber ts j) (tabletRelay ts j))) e ∙ sym (passed-at b k j c (omega arith))
+  movers-holes zero i j h l = unfold movers holes in refl
+  movers-holes (suc left) i j h l =
+      split (passedAt (v .home) (v .slot) i j)
+      (λ p. ap (movesOf ts (tabletRelay ts i)) (movers-take (v .home) (v .slot) i j left p)
+      ∙ ap (λ (l : List Move). record { tablet = tabletNumber ts j; old = tabletRelay ts j; new = tabletRelay ts i } ∷ l) (movers-holes left j (suc j) (omega arith) (omega arith))
+      ∙ sym (holes-take (positions s) (tabletRelay ts i) (entry (tabletNumber ts j) (tabletRelay ts j)) (behind (suc j) left) (sym (passed-at b i j h (omega arith)) ∙ p)))
+      (λ p. ap (movesOf ts (tabletRelay ts i)) (movers-pass (v .home) (v .slot) i j left p)
+      ∙ movers-holes left i (suc j) h (omega arith)
+      ∙ sym (holes-pass (positions s) (tabletRelay ts i) (entry (tabletNumber ts j) (tabletRelay ts j)) (behind (suc j) left) (sym (passed-at b i j h (omega arith)) ∙ p)))
 
   module _ (at : ℕ) (h : at < m) where
     abbrev g : Ring
@@ -118,10 +112,10 @@ module _ {s : ℕ} {rs ts : List ℕ} {n m : ℕ} {v : Survey} (b : Start s rs t
         (subst (λ (l : List Entry). Among e l) (sym parts) (among-left (tabletsIn ts at) (behind (suc at) (m - suc at)) e i))
         (let l : e .number < tabletNumber ts at = before-lower (tabletRelay ts) (start-rises b .tablets) at h e i in omega arith)
 
-    pub chain-moves : movesOf ts (tabletRelay ts at) (movers n (v .home) (v .slot) (getD (v .slot) at 0) (suc at) (m - suc at))
+    pub chain-moves : movesOf ts (tabletRelay ts at) (movers (v .home) (v .slot) at (suc at) (m - suc at))
         ≡ holes (positions s) (besideOf (tabletsIn ts m) (tabletNumber ts at)) (delete (tabletNumber ts at) (tabletsIn ts m))
     chain-moves =
-        movers-holes (m - suc at) (suc at) (getD (v .slot) at 0) (tabletRelay ts at) (omega arith) (slot-within b at h) (sym (slot-relay b at h))
+        movers-holes (m - suc at) at (suc at) h (omega arith)
         ∙ sym (holes-skip (positions s) (tabletRelay ts at) (tabletsIn ts at) (behind (suc at) (m - suc at)) before)
         ∙ ap (holes (positions s) (tabletRelay ts at)) (sym parts)
         ∙ ap (λ (q : ℕ). holes (positions s) q (delete (tabletNumber ts at) (tabletsIn ts m))) (sym beside)

@@ -29,11 +29,13 @@ use Rattle.survey.specs.declared.Survey.{Survey}
 use Rattle.survey.specs.Row.{slotRoom}
 use Rattle.meaning.specs.Meaning.{relaysIn, tabletsIn}
 use Rattle.meaning.proofs.Places.{places-sits, held-places}
+use Rattle.meaning.proofs.Words.{tablet-relay-word}
 use Rattle.meaning.proofs.Right.{Rises, right-room}
 use Rattle.look.specs.Start.{Start}
 use Rattle.look.proofs.Refusing.{start-rises, start-ring}
-use Rattle.seat.proofs.Passing.{home-within, slot-within, slot-relay, passed-steps}
+use Rattle.seat.proofs.Passing.{home-within, home-byte, slot-within, slot-relay, passed-steps}
 use Rattle.holes.specs.Holes.{passedAt, Sweeps}
+use Rattle.withdraw.proofs.Around.{around-steps}
 
 -- ---- in the paper's words
 
@@ -73,44 +75,47 @@ module _ {s : ℕ} {rs ts : List ℕ} {n m : ℕ} {v : Survey} (b : Start s rs t
   there : (j : ℕ) → j < m → Among (entry (tabletNumber ts j) (tabletRelay ts j)) (tabletsIn ts m)
   there j h = sits-among (tabletsIn ts m) (tabletNumber ts j) (tabletRelay ts j) (places-sits (tabletNumber ts) (tabletRelay ts) m j h)
 
-  abbrev relayOf : ℕ → ℕ
-  relayOf k = relayNumber rs (slotRelay (v .keys) k)
+  inside : (i : ℕ) → i < m → slotRelay (v .keys) (getD (v .slot) i 0) < n
+  inside i h = b .surveyed .ordered .holds .relay (getD (v .slot) i 0) (slot-within b i h)
 
-  inside : (k : ℕ) → k < n → slotRelay (v .keys) k < n
-  inside k h = b .surveyed .ordered .holds .relay k h
-
-  pub passed-at : (k j : ℕ) → k < n → j < m → passedAt n (v .home) (v .slot) k j ≡ hadPassed (positions s) (relayNumber rs (slotRelay (v .keys) k)) (entry (tabletNumber ts j) (tabletRelay ts j))
+  -- the tablet at place j had passed the relay of the tablet at place i
+  pub passed-at : (i j : ℕ) → i < m → j < m → passedAt (v .home) (v .slot) i j ≡ hadPassed (positions s) (tabletRelay ts i) (entry (tabletNumber ts j) (tabletRelay ts j))
   unfolding passedAt
-  passed-at k j h l = sym (passed-steps b j l k h)
+  passed-at i j h l =
+      around-steps n (getD (v .home) j 0) (getD (v .slot) i 0) (getD (v .slot) j 0) (rises .relaysFit .few) (home-within b j l) (home-byte b j l) (slot-within b i h) (slot-within b j l)
+      ∙ sym (passed-steps b j l (getD (v .slot) i 0) (slot-within b i h))
+      ∙ ap (λ (q : ℕ). hadPassed (positions s) q (at j)) (slot-relay b i h)
 
-  has-room : (k : ℕ) → k < n → 0 < slotRoom (v .keys) (v .room) k → load (tabletsIn ts m) (relayOf k) < held (relaysIn rs n) (relayOf k)
+  has-room : (i : ℕ) → i < m → 0 < slotRoom (v .keys) (v .room) (getD (v .slot) i 0) → load (tabletsIn ts m) (tabletRelay ts i) < held (relaysIn rs n) (tabletRelay ts i)
   unfolding slotRoom
-  has-room k h o =
-      let i : ℕ = slotRelay (v .keys) k in
-      let e : getD (v .room) i 0 ≡ relayLimit rs i - load (tabletsIn ts m) (relayNumber rs i) =
-      ap (λ (l : List ℕ). getD l i 0) (b .surveyed .left) ∙ right-room rises m (omega arith) i (inside k h) in
-      omega (arith, held-places (relayLimit rs) (rises .relays) i (inside k h))
+  has-room i h o =
+      let k : ℕ = slotRelay (v .keys) (getD (v .slot) i 0) in
+      let e : getD (v .room) k 0 ≡ relayLimit rs k - load (tabletsIn ts m) (relayNumber rs k) =
+      ap (λ (l : List ℕ). getD l k 0) (b .surveyed .left) ∙ right-room rises m (omega arith) k (inside i h) in
+      subst (λ (q : ℕ). load (tabletsIn ts m) q < held (relaysIn rs n) q) (slot-relay b i h) (omega (arith, held-places (relayLimit rs) (rises .relays) k (inside i h)))
 
-  pub start-sweeps : Sweeps (v .keys) (v .room) (v .home) (v .slot) n m
+  small : (i : ℕ) → i < m → tabletRelay ts i < 2 ^ 32
+  small i h = tablet-relay-word (b .tabletWords) i
+
+  pub start-sweeps : Sweeps (v .keys) (v .room) (v .home) (v .slot) m
   start-sweeps =
       record {
-        relaysFew = rises .relaysFit .few;
-        tabletsFew = rises .tabletsFit .few;
-        homes = home-within b;
-        slots = slot-within b;
-        roomy = λ k h o j l. passed-at k j h l ∙ room-passed (positions s) g right (relayOf k) (has-room k h o) (at j) (there j l);
-        shut = λ k j i h p l c e.
-            passed-greater (positions s) g right (relayOf k) (rises .relays .small (slotRelay (v .keys) k) (inside k h)) (at j) (there j (omega arith)) (sym (passed-at k j h (omega arith)) ∙ p)
-            (tabletNumber ts i) (sits k i c e) (rising j i l c);
+        few = rises .tabletsFit .few;
+        slots = λ j h. omega (arith, slot-within b j h, rises .relaysFit .few);
+        roomy = λ i j h l o. passed-at i j h l ∙ room-passed (positions s) g right (tabletRelay ts i) (has-room i h o) (at j) (there j l);
+        shut = λ i j l h p a c e.
+            passed-greater (positions s) g right (tabletRelay ts i) (small i h) (at j) (there j (omega arith)) (sym (passed-at i j h (omega arith)) ∙ p)
+            (tabletNumber ts l) (sits i l h c e) (rising j l a c);
       }
     where
-      sits : (k i : ℕ) → i < m → getD (v .slot) i 0 ≡ k → Sits (tabletsIn ts m) (tabletNumber ts i) (relayOf k)
-      sits k i c e =
-          subst (λ (x : ℕ). Sits (tabletsIn ts m) (tabletNumber ts i) x) (sym (slot-relay b i c) ∙ ap (λ (x : ℕ). relayNumber rs (slotRelay (v .keys) x)) e)
-          (places-sits (tabletNumber ts) (tabletRelay ts) m i c)
+      sits : (i l : ℕ) → i < m → l < m → getD (v .slot) l 0 ≡ getD (v .slot) i 0 → Sits (tabletsIn ts m) (tabletNumber ts l) (tabletRelay ts i)
+      sits i l h c e =
+          subst (λ (x : ℕ). Sits (tabletsIn ts m) (tabletNumber ts l) x)
+          (sym (slot-relay b l c) ∙ ap (λ (x : ℕ). relayNumber rs (slotRelay (v .keys) x)) e ∙ slot-relay b i h)
+          (places-sits (tabletNumber ts) (tabletRelay ts) m l c)
 
-      rising : (j i : ℕ) → j ≤ i → i < m → tabletNumber ts j ≤ tabletNumber ts i
-      rising j i l c =
-          split (ltb j i)
-          (λ s. omega (arith, rises .tablets .up j i (ltb-true j i s) c))
-          (λ s. let z : j ≡ i = omega (arith, ltb-false j i s) in omega (arith, ap (tabletNumber ts) z))
+      rising : (j l : ℕ) → j ≤ l → l < m → tabletNumber ts j ≤ tabletNumber ts l
+      rising j l a c =
+          split (ltb j l)
+          (λ s. omega (arith, rises .tablets .up j l (ltb-true j l s) c))
+          (λ s. let z : j ≡ l = omega (arith, ltb-false j l s) in omega (arith, ap (tabletNumber ts) z))

@@ -1,3 +1,4 @@
+pub mod Around
 pub mod Known
 pub mod Chained
 pub mod Withdrawing

@@ -74,7 +74,7 @@ module _ {s : ℕ} {rs ts : List ℕ} {n m : ℕ} {v : Survey} (b : Start s rs t
       rw (start-ring b)
       (omega (arith, right b .enough, length-delete (t .0) (besideOf (tabletsIn ts m) (t .0)) (tabletsIn ts m) 0 (right b .tablets .up) (has-sits (tabletsIn ts m) 0 (t .0) (right b .tablets .up) there)))
 
-  module _ {chain : Chain} (c : Chains n (v .home) (v .slot) m (seat .at) chain) (ms : List ℕ) where
+  module _ {chain : Chain} (c : Chains (v .home) (v .slot) m (seat .at) chain) (ms : List ℕ) where
     abbrev chainMoves : List Move
     chainMoves = movesOf ts (tabletRelay ts (seat .at)) (take (chain .count) (chain .places))
 

@@ -21,8 +21,7 @@ pub fn withdraw(
     }
     let n = l.n;
     let m = l.m;
-    let survey = l.survey;
-    let seat = seat::seat_of(tablets, n, m, &survey.home, &survey.slot, t);
+    let seat = seat::seat_of(tablets, n, m, &l.survey.home, &l.survey.slot, t);
     let wrong = seat.refusal;
     let there = rule::done(wrong);
     if !there {
@@ -30,11 +29,10 @@ pub fn withdraw(
     }
     let at = seat.at;
     let chain = holes::holes(
-        &survey.keys,
-        &survey.room,
-        &survey.home,
-        &survey.slot,
-        n,
+        &l.survey.keys,
+        &l.survey.room,
+        &l.survey.home,
+        &l.survey.slot,
         m,
         at,
     );
@@ -42,8 +40,7 @@ pub fn withdraw(
     if moves.len() / 3 < count {
         return rule::refused(rule::Refusal::MoveListTooShort);
     }
-    let places = chain.places;
-    holes::fill(tablets, moves, m, at, &places, count);
+    holes::fill(tablets, moves, m, at, &chain.places, count);
     rule::Reply {
         refusal: rule::Refusal::Done,
         relay: seat.relay,

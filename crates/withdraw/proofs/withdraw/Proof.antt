@@ -27,7 +27,7 @@ returns : tie.Need-returns
 returns c = look-answers (c .before .before .before .look .ensures) (c .before .before .done .ensures) (words-of _ (c .before .before .before .before .before .before .before .shared-slice-known .given)) (words-of _ (c .before .before .before .before .before .before .slice-known .given)) (c .before .if1 .taken) (c .refused .ensures) _ _
 
 seat-of-requires : tie.Need-seat-of-requires
-seat-of-requires c κs = start-seated (look-start (c .before .before .before .before .before .before .before .look .ensures) (c .before .before .before .before .before .before .done .ensures) (c .before .before .before .before .before .if1 .left))
+seat-of-requires c κs = start-seated (look-start (c .before .before .before .before .before .before .look .ensures) (c .before .before .before .before .before .done .ensures) (c .before .before .before .before .if1 .left))
 
 done-requires-2 : tie.Need-done-requires-2
 done-requires-2 c κs = search needs
@@ -40,12 +40,12 @@ same-length-2 c = search needs
 
 returns-2 : tie.Need-returns-2
 returns-2 c =
-    let b = look-start (c .before .before .before .before .before .before .before .before .before .before .before .look .ensures) (c .before .before .before .before .before .before .before .before .before .before .done .ensures) (c .before .before .before .before .before .before .before .before .before .if1 .left) in
+    let b = look-start (c .before .before .before .before .before .before .before .before .before .before .look .ensures) (c .before .before .before .before .before .before .before .before .before .done .ensures) (c .before .before .before .before .before .before .before .before .if1 .left) in
     seat-refused b _ (c .before .before .before .seat-of .ensures) (c .before .before .done2 .ensures) (c .before .if2 .taken) (c .refused2 .ensures) _ (missing-withdraw b _) _
 
 holes-requires : tie.Need-holes-requires
 holes-requires c κs =
-    let b = look-start (c .before .before .before .before .before .before .before .before .before .before .before .before .before .before .before .look .ensures) (c .before .before .before .before .before .before .before .before .before .before .before .before .before .before .done .ensures) (c .before .before .before .before .before .before .before .before .before .before .before .before .before .if1 .left) in
+    let b = look-start (c .before .before .before .before .before .before .before .before .before .before .before .before .before .before .look .ensures) (c .before .before .before .before .before .before .before .before .before .before .before .before .before .done .ensures) (c .before .before .before .before .before .before .before .before .before .before .before .before .if1 .left) in
     (start-sweeps b, stands b _ (c .before .before .before .before .before .before .before .seat-of .ensures) (c .before .before .before .before .before .before .done2 .ensures) (c .before .before .before .before .before .if2 .left) .below)
 
 refused-requires-3 : tie.Need-refused-requires-3
@@ -56,12 +56,12 @@ same-length-3 c = search needs
 
 returns-3 : tie.Need-returns-3
 returns-3 c =
-    let b = look-start (c .before .before .before .before .before .before .before .before .before .before .before .before .before .before .before .before .before .before .look .ensures) (c .before .before .before .before .before .before .before .before .before .before .before .before .before .before .before .before .before .done .ensures) (c .before .before .before .before .before .before .before .before .before .before .before .before .before .before .before .before .if1 .left) in
+    let b = look-start (c .before .before .before .before .before .before .before .before .before .before .before .before .before .before .before .before .before .look .ensures) (c .before .before .before .before .before .before .before .before .before .before .before .before .before .before .before .before .done .ensures) (c .before .before .before .before .before .before .before .before .before .before .before .before .before .before .before .if1 .left) in
     withdraw-short b _ (c .before .before .before .before .before .before .before .before .before .before .seat-of .ensures) (c .before .before .before .before .before .before .before .before .before .done2 .ensures) (c .before .before .before .before .before .before .before .before .if2 .left) (c .before .before .holes .ensures) _ (c .before .if3 .taken) (c .refused3 .ensures)
 
 fill-requires : tie.Need-fill-requires
 fill-requires c κs =
-    let b = look-start (c .before .before .before .before .before .before .before .before .before .before .before .before .before .before .before .before .before .before .before .before .before .look .ensures) (c .before .before .before .before .before .before .before .before .before .before .before .before .before .before .before .before .before .before .before .before .done .ensures) (c .before .before .before .before .before .before .before .before .before .before .before .before .before .before .before .before .before .before .before .if1 .left) in (
+    let b = look-start (c .before .before .before .before .before .before .before .before .before .before .before .before .before .before .before .before .before .before .before .before .look .ensures) (c .before .before .before .before .before .before .before .before .before .before .before .before .before .before .before .before .before .before .before .done .ensures) (c .before .before .before .before .before .before .before .before .before .before .before .before .before .before .before .before .before .before .if1 .left) in (
       withdraw-fillers b _ (c .before .before .before .before .before .before .before .before .before .before .before .before .before .seat-of .ensures) (c .before .before .before .before .before .before .before .before .before .before .before .before .done2 .ensures) (c .before .before .before .before .before .before .before .before .before .before .before .if2 .left) (c .before .before .before .before .before .holes .ensures) _ (omega (arith, c .before .before .before .before .if3 .left)),
       stands b _ (c .before .before .before .before .before .before .before .before .before .before .before .before .before .seat-of .ensures) (c .before .before .before .before .before .before .before .before .before .before .before .before .done2 .ensures) (c .before .before .before .before .before .before .before .before .before .before .before .if2 .left) .below,
       c .before .before .before .before .before .holes .ensures .climbs,
@@ -78,7 +78,7 @@ same-length-5 c = search needs
 
 returns-4 : tie.Need-returns-4
 returns-4 c =
-    let b = look-start (c .before .before .before .before .before .before .before .before .before .before .before .before .before .before .before .before .before .before .before .before .before .before .before .before .before .before .look .ensures) (c .before .before .before .before .before .before .before .before .before .before .before .before .before .before .before .before .before .before .before .before .before .before .before .before .before .done .ensures) (c .before .before .before .before .before .before .before .before .before .before .before .before .before .before .before .before .before .before .before .before .before .before .before .before .if1 .left) in
+    let b = look-start (c .before .before .before .before .before .before .before .before .before .before .before .before .before .before .before .before .before .before .before .before .before .before .before .before .before .look .ensures) (c .before .before .before .before .before .before .before .before .before .before .before .before .before .before .before .before .before .before .before .before .before .before .before .before .done .ensures) (c .before .before .before .before .before .before .before .before .before .before .before .before .before .before .before .before .before .before .before .before .before .before .before .if1 .left) in
     withdraw-done b _ (c .before .before .before .before .before .before .before .before .before .before .before .before .before .before .before .before .before .before .seat-of .ensures) (c .before .before .before .before .before .before .before .before .before .before .before .before .before .before .before .before .before .done2 .ensures) (c .before .before .before .before .before .before .before .before .before .before .before .before .before .before .before .before .if2 .left) (c .before .before .before .before .before .before .before .before .before .before .holes .ensures) _ (omega (arith, c .before .before .before .before .before .before .before .before .before .if3 .left)) (c .before .before .before .before .fill .ensures)
 
 pub withdraw-spec : {M : Type 1} → statement M
