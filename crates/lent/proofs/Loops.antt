@@ -2,6 +2,7 @@
 --   at-end                              a loop that counts up has come to its end
 --   both-left, both-right               two tests
 --   all-step, all-more, all-false       one more place is tested
+--   all-at, all-of                      a test of every place, and of each
 --   stored                              what holds of an array after a store
 --   array-more, array-at, array-beyond  an array that is loaded from its start
 -- Assumes nothing.
@@ -14,8 +15,9 @@ use native.Mathlib.Decide.{ℕ-discrete}
 use native.Mathlib.Nat.{le-antisymm, eq-or-lt-of-le, le-of-suc-le-suc, not-suc-le-zero}
 use native.Mathlib.Numerals.{add-one}
 use native.Mathlib.Omega.{arith}
-use lib.ListN.{length, getD, set, replicate, length-set, getD-replicate, List·getD-eq-default, length-replicate}
+use lib.ListN.{length, getD, set, replicate, length-set}
 use lib.Seq.{getD-set-same, getD-set-other}
+use Rattle.ring.proofs.Tests.{split, true-false}
 use Rattle.lent.specs.Shape.{all}
 use Rattle.lent.specs.Table.{mostRelays}
 use Rattle.lent.specs.Placing.{array}
@@ -52,6 +54,14 @@ all-false f {i} (suc n) l e =
     ⊎-elim (λ q. sym (ap (λ (b : Bool). all f n && b) (ap f (sym q) ∙ e) ∙ and-false (all f n)))
     (λ k. rw (← all-false f n k e))
     (eq-or-lt-of-le (le-of-suc-le-suc l))
+
+pub all-at : (f : ℕ → Bool) (n i : ℕ) → all f n ≡ true → i < n → f i ≡ true
+all-at f n i e h = split (f i) (λ s. s) (λ s. absurd (true-false (sym e ∙ sym (all-false f n h s))))
+
+pub all-of : (f : ℕ → Bool) (n : ℕ) → ((i : ℕ) → i < n → f i ≡ true) → all f n ≡ true
+unfolding all
+all-of f zero g = refl
+all-of f (suc n) g = rw (all-of f n (λ i h. g i (omega arith)), g n (omega arith))
 
 -- ---- an array
 

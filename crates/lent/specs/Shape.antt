@@ -2,7 +2,8 @@
 -- (a relay's limit, a tablet's relay), and how many places there are. Assumes nothing.
 use mathlib.Core.Bool.{Bool, true, _&&_, cond}
 use mathlib.Core.List.{List}
-use Prim.Native.Nat.{ℕ, zero, suc, _+_, _-_, _^_}
+use mathlib.Core.Path.{_≡_}
+use Prim.Native.Nat.{ℕ, zero, suc, _+_, _-_, _^_, _≤_, _<_}
 use lib.Dec.{eqb, ltb, leb}
 use Rattle.lent.specs.Table.{mostRelays, relayPlaces, relayNumber, relayLimit, relayWhole, mostTablets, tabletPlaces, tabletNumber, tabletRelay, tabletWhole}
 
@@ -29,16 +30,24 @@ entryRight top before number beside = ltb before number && leb beside top
 unfoldable pub unused : ℕ → ℕ → Bool
 unused number beside = eqb number 0 && eqb beside 0
 
--- place i of a table with n entries, where `before` is the number before it
-unfoldable pub placeRight : ℕ → ℕ → ℕ → ℕ → ℕ → ℕ → Bool
-placeRight top n i before number beside = cond (ltb i n) (entryRight top before number beside) (unused number beside)
+-- place i has an entry
+unfoldable pub entryAt : ℕ → (ℕ → ℕ) → (ℕ → ℕ) → ℕ → Bool
+entryAt top number beside i = entryRight top (previous number i) (number i) (beside i)
 
-unfoldable pub shapeAt : ℕ → (ℕ → ℕ) → (ℕ → ℕ) → ℕ → ℕ → Bool
-shapeAt top number beside n i = placeRight top n i (previous number i) (number i) (beside i)
+-- the place i behind the n entries is unused
+unfoldable pub unusedAt : (ℕ → ℕ) → (ℕ → ℕ) → ℕ → ℕ → Bool
+unusedAt number beside n i = unused (number (n + i)) (beside (n + i))
 
--- the n entries rise strictly and come first, and every later place is unused
+-- of so many places the first n are entries, which rise strictly, and every later place is unused
 unfoldable pub shape : ℕ → (ℕ → ℕ) → (ℕ → ℕ) → ℕ → ℕ → Bool
-shape top number beside n places = all (shapeAt top number beside n) places
+shape top number beside n places = leb n places && (all (entryAt top number beside) n && all (unusedAt number beside n) (places - n))
+
+-- from place low to place high, somewhere, the numbers stop: there is one before low, and none at high
+pub record Edge (number : ℕ → ℕ) (places low high : ℕ) : Type 0 where
+  pub order : low ≤ high
+  pub within : high ≤ places
+  pub some : (i : ℕ) → i + 1 ≡ low → 0 < number i
+  pub none : high < places → number high ≡ 0
 
 -- ---- the two tables
 
@@ -69,3 +78,13 @@ relayShape rs n = relayFits rs && shape topLimit (relayNumber rs) (relayLimit rs
 
 unfoldable pub tabletShape : List ℕ → ℕ → Bool
 tabletShape ts m = tabletFits ts && shape topNumber (tabletNumber ts) (tabletRelay ts) m (tabletPlaces ts)
+
+-- ---- the entries of a lent table, where it is as it must be
+
+pub record RelayEntries (rs : List ℕ) (right : Bool) (n : ℕ) : Type 0 where
+  pub test : right ≡ relayShape rs (relaysUsed rs)
+  pub count : right ≡ true → n ≡ relaysUsed rs
+
+pub record TabletEntries (ts : List ℕ) (right : Bool) (m : ℕ) : Type 0 where
+  pub test : right ≡ tabletShape ts (tabletsUsed ts)
+  pub count : right ≡ true → m ≡ tabletsUsed ts

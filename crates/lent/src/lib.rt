@@ -1,19 +1,18 @@
 // The lent tables (document 01, "The lent tables"): where a relay and a tablet stand in them, whether they have their shape, and
 // whether the relays beside the tablets are the rule's, found the plain way.
 ghost use mathlib.Core.Path.{_≡_};
-ghost use mathlib.Core.Bool.{cond, _&&_};
-ghost use Prim.Native.Nat.{_+_, _*_, _^_, min, _<_, _≤_};
-ghost use lib.Dec.{ltb};
+ghost use mathlib.Core.Bool.{_&&_};
+ghost use Prim.Native.Nat.{_+_, _-_, _*_, min, _<_, _≤_};
 ghost use Rattle.ring.specs.Scheme.{positions};
 ghost use Rattle.lent.specs.Table.{mostRelays, relayPlaces, relayNumber, relayLimit, relayWhole, RelaysIn, tabletPlaces, tabletNumber, tabletRelay, tabletWhole, TabletsIn};
-ghost use Rattle.lent.specs.Shape.{entryRight, unused, placeRight, relaysUsed, tabletsUsed, relayFits, tabletFits, relayShape, tabletShape};
+ghost use Rattle.lent.specs.Shape.{all, entryRight, unused, entryAt, unusedAt, Edge, topLimit, topNumber, relayFits, tabletFits, relayShape, tabletShape, RelayEntries, TabletEntries};
 ghost use Rattle.lent.specs.Placing.{relayPositions, relayLimits, keyFrom, openKey, firstWithRoom, placed};
 
 pub const MOST_RELAYS: usize = 256;
 
 pub const MOST_TABLETS: usize = 4096;
 
-const TOP_LIMIT: u32 = 4096;
+pub const TOP_LIMIT: u32 = 4096;
 
 const TOP_NUMBER: u32 = 4294967295;
 
@@ -75,39 +74,38 @@ pub fn tablet_whole(tablets: &[u32]) -> bool
     tablets.len() % 2 == 0
 }
 
-// ---- how many places are in use
+// ---- how many places are in use, where the numbers come first: a search by halves
 
-// 1 for a place with a number, 0 for one without.
-fn one_if_used(number: u32) -> usize
-    ensures { λ r. ⌜ r ≡ cond (ltb 0 number) 1 0 ⌝ }
+fn relay_edge(relays: &[u32]) -> usize
+    ensures { λ r. ⌜ Edge (relayNumber (now (relays .entry))) (relayPlaces (now (relays .entry))) r r ⌝ }
 {
-    if 0 < number { 1 } else { 0 }
+    let mut low: usize = 0;
+    let mut high = relay_places(relays);
+    while low < high {
+        let middle = low + (high - low) / 2;
+        if 0 < relay_number(relays, middle).0 {
+            low = middle + 1;
+        } else {
+            high = middle;
+        }
+    }
+    low
 }
 
-pub fn relays_used(relays: &[u32]) -> usize
-    ensures { λ r. ⌜ r ≡ relaysUsed (now (relays .entry)) ⌝ }
+fn tablet_edge(tablets: &[u32]) -> usize
+    ensures { λ r. ⌜ Edge (tabletNumber (now (tablets .entry))) (tabletPlaces (now (tablets .entry))) r r ⌝ }
 {
-    let places = relay_places(relays);
-    let mut n: usize = 0;
-    let mut i: usize = 0;
-    while i < places {
-        n += one_if_used(relay_number(relays, i).0);
-        i += 1;
+    let mut low: usize = 0;
+    let mut high = tablet_places(tablets);
+    while low < high {
+        let middle = low + (high - low) / 2;
+        if 0 < tablet_number(tablets, middle).0 {
+            low = middle + 1;
+        } else {
+            high = middle;
+        }
     }
-    n
-}
-
-pub fn tablets_used(tablets: &[u32]) -> usize
-    ensures { λ r. ⌜ r ≡ tabletsUsed (now (tablets .entry)) ⌝ }
-{
-    let places = tablet_places(tablets);
-    let mut m: usize = 0;
-    let mut j: usize = 0;
-    while j < places {
-        m += one_if_used(tablet_number(tablets, j).0);
-        j += 1;
-    }
-    m
+    low
 }
 
 // ---- shape. The loops have no way out, so that they go over several places at a time.
@@ -134,17 +132,6 @@ fn unused_place(number: u32, beside: u32) -> bool
     if number == 0 { beside == 0 } else { false }
 }
 
-// Is place i of a table with n entries as it must be, where `before` is the number before it?
-fn place_right(top: u32, n: usize, i: usize, before: u32, number: u32, beside: u32) -> bool
-    ensures { λ r. ⌜ r ≡ placeRight top n i before number beside ⌝ }
-{
-    if i < n {
-        entry_right(top, before, number, beside)
-    } else {
-        unused_place(number, beside)
-    }
-}
-
 pub fn relay_fits(relays: &[u32]) -> bool
     ensures { λ r. ⌜ r ≡ relayFits (now (relays .entry)) ⌝ }
 {
@@ -160,6 +147,41 @@ pub fn tablet_fits(tablets: &[u32]) -> bool
     )
 }
 
+// Are the first n places entries?
+fn relays_rise(relays: &[u32], n: usize) -> bool
+    requires { ⌜ n ≤ relayPlaces (now relays) ⌝ }
+    ensures { λ r. ⌜ r ≡ all (entryAt topLimit (relayNumber (now (relays .entry))) (relayLimit (now (relays .entry)))) n ⌝ }
+{
+    let mut ok = true;
+    let mut before: u32 = 0;
+    let mut i: usize = 0;
+    while i < n {
+        let number = relay_number(relays, i).0;
+        let limit = relay_limit(relays, i);
+        ok = both(ok, entry_right(TOP_LIMIT, before, number, limit));
+        before = number;
+        i += 1;
+    }
+    ok
+}
+
+// Are the places behind the first n unused?
+fn relays_end(relays: &[u32], n: usize) -> bool
+    requires { ⌜ n ≤ relayPlaces (now relays) ⌝ }
+    ensures { λ r. ⌜ r ≡ all (unusedAt (relayNumber (now (relays .entry))) (relayLimit (now (relays .entry))) n) (relayPlaces (now (relays .entry)) - n) ⌝ }
+{
+    let left = relay_places(relays) - n;
+    let mut ok = true;
+    let mut i: usize = 0;
+    while i < left {
+        let number = relay_number(relays, n + i).0;
+        let limit = relay_limit(relays, n + i);
+        ok = both(ok, unused_place(number, limit));
+        i += 1;
+    }
+    ok
+}
+
 // Is the relay table as it must be, with n entries?
 pub fn relay_shape(relays: &[u32], n: usize) -> bool
     ensures { λ r. ⌜ r ≡ relayShape (now (relays .entry)) n ⌝ }
@@ -168,16 +190,45 @@ pub fn relay_shape(relays: &[u32], n: usize) -> bool
     if !fits {
         return false;
     }
-    let places = relay_places(relays);
+    if relay_places(relays) < n {
+        return false;
+    }
+    let rise = relays_rise(relays, n);
+    let end = relays_end(relays, n);
+    both(rise, end)
+}
+
+// Are the first m places entries?
+fn tablets_rise(tablets: &[u32], m: usize) -> bool
+    requires { ⌜ m ≤ tabletPlaces (now tablets) ⌝ }
+    ensures { λ r. ⌜ r ≡ all (entryAt topNumber (tabletNumber (now (tablets .entry))) (tabletRelay (now (tablets .entry)))) m ⌝ }
+{
     let mut ok = true;
     let mut before: u32 = 0;
-    let mut i: usize = 0;
-    while i < places {
-        let number = relay_number(relays, i).0;
-        let limit = relay_limit(relays, i);
-        ok = both(ok, place_right(TOP_LIMIT, n, i, before, number, limit));
+    let mut j: usize = 0;
+    while j < m {
+        let number = tablet_number(tablets, j).0;
+        let relay = tablet_relay(tablets, j).0;
+        ok = both(ok, entry_right(TOP_NUMBER, before, number, relay));
         before = number;
-        i += 1;
+        j += 1;
+    }
+    ok
+}
+
+// Are the places behind the first m unused?
+fn tablets_end(tablets: &[u32], m: usize) -> bool
+    requires { ⌜ m ≤ tabletPlaces (now tablets) ⌝ }
+    ensures { λ r. ⌜ r ≡ all (unusedAt (tabletNumber (now (tablets .entry))) (tabletRelay (now (tablets .entry))) m) (tabletPlaces (now (tablets .entry)) - m) ⌝ }
+{
+    let left = tablet_places(tablets) - m;
+    let mut ok = true;
+    let mut j: usize = 0;
+    while j < left {
+        let number = tablet_number(tablets, m + j).0;
+        let relay = tablet_relay(tablets, m + j).0;
+        ok = both(ok, unused_place(number, relay));
+        j += 1;
     }
     ok
 }
@@ -190,18 +241,40 @@ pub fn tablet_shape(tablets: &[u32], m: usize) -> bool
     if !fits {
         return false;
     }
-    let places = tablet_places(tablets);
-    let mut ok = true;
-    let mut before: u32 = 0;
-    let mut j: usize = 0;
-    while j < places {
-        let number = tablet_number(tablets, j).0;
-        let relay = tablet_relay(tablets, j).0;
-        ok = both(ok, place_right(TOP_NUMBER, m, j, before, number, relay));
-        before = number;
-        j += 1;
+    if tablet_places(tablets) < m {
+        return false;
     }
-    ok
+    let rise = tablets_rise(tablets, m);
+    let end = tablets_end(tablets, m);
+    both(rise, end)
+}
+
+// Is a table as it must be, and how many entries has it then?
+pub struct Entries {
+    pub right: bool,
+    pub count: usize,
+}
+
+pub fn relay_entries(relays: &[u32]) -> Entries
+    ensures { λ r. ⌜ RelayEntries (now (relays .entry)) (r .right) (r .count) ⌝ }
+{
+    let n = relay_edge(relays);
+    let right = relay_shape(relays, n);
+    Entries {
+        right: right,
+        count: n,
+    }
+}
+
+pub fn tablet_entries(tablets: &[u32]) -> Entries
+    ensures { λ r. ⌜ TabletEntries (now (tablets .entry)) (r .right) (r .count) ⌝ }
+{
+    let m = tablet_edge(tablets);
+    let right = tablet_shape(tablets, m);
+    Entries {
+        right: right,
+        count: m,
+    }
 }
 
 // ---- the rule of placement

@@ -3,21 +3,23 @@ use mathlib.Core.Bool.{Bool, true, false, not}
 use mathlib.Core.Path.{_≡_, refl, sym, ap, _∙_}
 use mathlib.Core.List.{List}
 use Prim.Native.Nat.{ℕ}
+use native.Mathlib.Omega.{arith}
 use lib.ListN.{getD}
 use mir.Val.{Fits}
 use mir.Syntax.{w32}
 use Rattle.ring.specs.Scheme.{known, positions}
-use Rattle.ring.proofs.Tests.{not-false, and-false, true-false}
+use Rattle.ring.proofs.Tests.{split, not-false, true-false}
 use Rattle.rule.specs.declared.Refusal.{Refusal}
 use Rattle.rule.specs.declared.Refusal.the-variants.{Done, SchemeUnknown, TablesNotRight}
 use Rattle.rule.specs.Refusals.{isDone, firstBar}
-use Rattle.lent.specs.Table.{RelaysIn, TabletsIn}
-use Rattle.lent.specs.Shape.{relayShape, tabletShape, relaysUsed, tabletsUsed}
-use Rattle.lent.specs.Placing.{right, placed}
-use Rattle.lent.proofs.Shape.{relays-in, tablets-in}
+use Rattle.lent.specs.Shape.{all}
+use Rattle.lent.specs.Placing.{placed, right}
+use Rattle.survey.specs.declared.Survey.{Survey}
+use Rattle.survey.specs.Seats.{Surveyed}
+use Rattle.survey.specs.Tables.{ShapesOf}
 use Rattle.meaning.specs.Meaning.{Words}
-use Rattle.look.specs.declared.Looked.{Looked}
-use Rattle.look.specs.Start.{checked, Looks}
+use Rattle.look.specs.declared.First.{First}
+use Rattle.look.specs.Start.{checked, verdict, Passed, FirstLook, Looks}
 
 pub not-true : {b : Bool} → not b ≡ true → b ≡ false
 not-true {b} e = go b e
@@ -43,29 +45,73 @@ module _ (s : ℕ) (rs ts : List ℕ) where
   unfolding checked firstBar
   right-passed {k} e h w = rw (sym e ∙ not-false k h, w)
 
-  -- the tables are wrong by the one shape, the other, or the placement
-  module _ {n : ℕ} (en : n ≡ relaysUsed rs) where
-    pub shape-wrong : {b : Bool} → b ≡ relayShape rs n → not b ≡ true → right (positions s) rs ts ≡ false
-    unfolding right
-    shape-wrong e h = rw (← en, sym e ∙ not-true h)
+  -- ---- the first look
 
-  module _ {n m : ℕ} (en : n ≡ relaysUsed rs) (em : m ≡ tabletsUsed ts) where
-    pub shape-wrong-2 : {b : Bool} → b ≡ tabletShape ts m → not b ≡ true → right (positions s) rs ts ≡ false
-    unfolding right
-    shape-wrong-2 e h = rw (← em, sym e ∙ not-true h) (and-false (relayShape rs (relaysUsed rs)))
+  pub barred-first : (f : First) (r : Refusal) → isDone r ≡ false → (f .refusal ≡ r) × (f .n ≡ 0) × (f .m ≡ 0) → checked s rs ts ≡ r → FirstLook s rs ts f
+  barred-first f r n e h = record {
+    relaysFit = record { few = omega (arith, e .1); there = omega (arith, e .1) };
+    tabletsFit = record { few = omega (arith, e .2); there = omega (arith, e .2) };
+    refused = λ _. (h ∙ sym (e .0), e .2);
+    passed = λ d. absurd (true-false (sym d ∙ ap isDone (e .0) ∙ n));
+  }
 
-    pub placed-wrong : {b : Bool} → b ≡ placed (positions s) rs ts n m → not b ≡ true → right (positions s) rs ts ≡ false
-    unfolding right
-    placed-wrong e h =
-        rw (← en, ← em, sym e ∙ not-true h, and-false (tabletShape ts m)) (and-false (relayShape rs n))
+  pub passed-first : {k fine : Bool} {n m : ℕ} → k ≡ known s → not k ≡ false → ShapesOf rs ts fine n m → not fine ≡ false → FirstLook s rs ts (record { refusal = Done; n = n; m = m })
+  unfolding isDone
+  passed-first {k} {fine} e h o t = record {
+    relaysFit = o .relaysFit;
+    tabletsFit = o .tabletsFit;
+    refused = λ d. absurd (true-false d);
+    passed = λ _. (
+      refl,
+      record {
+        known = sym e ∙ not-false k h;
+        relays = o .relays (not-false fine t);
+        tablets = o .tablets (not-false fine t);
+        test = o .test (not-false fine t) (positions s);
+      },
+    );
+  }
 
-    pub all-right : {a b c : Bool} → a ≡ relayShape rs n → not a ≡ false → b ≡ tabletShape ts m → not b ≡ false → c ≡ placed (positions s) rs ts n m → not c ≡ false → right (positions s) rs ts ≡ true
-    unfolding right
-    all-right {a} {b} {c} ea ha eb hb ec hc = rw (← en, ← em, sym ea ∙ not-false a ha, sym eb ∙ not-false b hb, sym ec ∙ not-false c hc)
+  -- ---- and the placement
 
-  pub refused-looks : (l : Looked) (r : Refusal) → isDone r ≡ false → l .refusal ≡ r → checked s rs ts ≡ r → Looks s rs ts l
-  refused-looks l r n e h = record { refusal = e ∙ sym h; start = λ d. absurd (true-false (sym d ∙ ap isDone e ∙ n)) }
+  not-done : isDone TablesNotRight ≡ false
+  unfolding isDone
+  not-done = refl
 
-pub fits : {rs ts : List ℕ} {n m : ℕ} {a b : Bool} → n ≡ relaysUsed rs → m ≡ tabletsUsed ts → a ≡ relayShape rs n → not a ≡ false → b ≡ tabletShape ts m → not b ≡ false
-    → RelaysIn rs n × TabletsIn ts m
-fits {a = a} {b = b} en em ea ha eb hb = (relays-in en (sym ea ∙ not-false a ha), tablets-in em (sym eb ∙ not-false b hb))
+  none-placed : (n : ℕ) → placed (positions s) rs ts n 0 ≡ true
+  unfolding placed all
+  none-placed n = refl
+
+  module _ {f : First} {v : Survey} {r : Refusal} (o : FirstLook s rs ts f) (e : v .right ≡ placed (positions s) rs ts (f .n) (f .m))
+      (g : v .right ≡ true → Surveyed (positions s) rs ts (f .n) (f .m) (v .keys) (v .room) (v .next) (v .last) (v .home) (v .slot)) (er : r ≡ verdict (f .refusal) (v .right))
+      (wr : Words rs) (wt : Words ts) where
+    first-stays : v .right ≡ true → r ≡ f .refusal
+    unfolding verdict
+    first-stays t = er ∙ rw t
+
+    second : v .right ≡ false → r ≡ TablesNotRight
+    unfolding verdict
+    second t = er ∙ rw t
+
+    pub looked : Looks s rs ts (record { refusal = r; n = f .n; m = f .m; survey = v })
+    looked = split (isDone (f .refusal)) done refused
+      where
+        refused : isDone (f .refusal) ≡ false → Looks s rs ts (record { refusal = r; n = f .n; m = f .m; survey = v })
+        refused n =
+            let same : r ≡ f .refusal = first-stays (e ∙ ap (placed (positions s) rs ts (f .n)) (o .refused n .1) ∙ none-placed (f .n)) in
+            record { refusal = same ∙ sym (o .refused n .0); start = λ d. absurd (true-false (sym d ∙ ap isDone same ∙ n)) }
+
+        done : isDone (f .refusal) ≡ true → Looks s rs ts (record { refusal = r; n = f .n; m = f .m; survey = v })
+        done y =
+            let p : Passed s rs ts (f .n) (f .m) = o .passed y .1 in
+            split (v .right)
+            (λ t. let ok : right (positions s) rs ts ≡ true = sym (p .test) ∙ sym e ∙ t in
+            record {
+              refusal = first-stays t ∙ o .passed y .0 ∙ sym (right-passed (sym (p .known)) refl ok);
+              start = λ _. record { known = p .known; right = ok; relays = p .relays; tablets = p .tablets; surveyed = g t; relayWords = wr; tabletWords = wt };
+            })
+            (λ t. let w : right (positions s) rs ts ≡ false = sym (p .test) ∙ sym e ∙ t in
+            record {
+              refusal = second t ∙ sym (wrong-refused (sym (p .known)) refl w);
+              start = λ d. absurd (true-false (sym d ∙ ap isDone (second t) ∙ not-done));
+            })

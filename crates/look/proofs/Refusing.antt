@@ -1,4 +1,6 @@
 -- From what a look found to the outcome of a call: which refusal it meets, one law for each, and what then is promised.
+--   tables-right                                                           right tables are right by document 01
+--   checked-first                                                          the first two refusals, before any others
 --   look-refused, number-refused, limits-refused, list-refused, all-passed   the refusal
 --   refused-answers, accepted-answers                                      the promise
 -- Assumes nothing.
@@ -54,10 +56,24 @@ module _ {s : ℕ} {rs ts : List ℕ} {n m : ℕ} {v : Survey} (b : Start s rs t
   unfolding ringOf
   start-ring = rw (b .relays, b .tablets)
 
-  tables-right : (fitTables rs ts && Rule.right (positions s) (ringOf rs ts)) ≡ true
+  pub tables-right : (fitTables rs ts && Rule.right (positions s) (ringOf rs ts)) ≡ true
   tables-right = sym (right-meaning (positions s) rs ts (b .relayWords) (b .tabletWords)) ∙ b .right
 
 -- ---- refusals
+
+-- one of the first two comes before whatever follows them
+pub checked-first : (s : ℕ) (rs ts : List ℕ) (later : List Bar) (r : Refusal) → checked s rs ts ≡ r → isDone r ≡ false
+    → firstBar (bar (not (known s)) SchemeUnknown ∷ bar (not (right (positions s) rs ts)) TablesNotRight ∷ later) ≡ r
+unfolding checked firstBar isDone
+checked-first s rs ts later r e h =
+    split (known s)
+    (λ k. split (right (positions s) rs ts)
+    (λ t. absurd (true-false (done-false (rw (k, t) at e) h)))
+    (λ t. rw (k, t) (rw (k, t) at e)))
+    (λ k. rw k (rw k at e))
+  where
+    done-false : Done ≡ r → isDone r ≡ false → true ≡ false
+    done-false u h = ap isDone u ∙ h
 
 module _ (s : ℕ) (rs ts ms : List ℕ) (c : Call) where
   abbrev lent : Lent
@@ -81,17 +97,7 @@ module _ (s : ℕ) (rs ts ms : List ℕ) (c : Call) where
   first-two wr wt = ap (λ (z : Bool). firstBar (bar (not (known s)) SchemeUnknown ∷ bar (not z) TablesNotRight ∷ later)) (sym (right-meaning (positions s) rs ts wr wt))
 
   pub look-refused : Words rs → Words ts → (r : Refusal) → checked s rs ts ≡ r → isDone r ≡ false → why ≡ r
-  unfolding checked firstBar isDone
-  look-refused wr wt r e h =
-      first-two wr wt
-      ∙ split (known s)
-      (λ k. split (right (positions s) rs ts)
-      (λ t. absurd (true-false (done-false (rw (k, t) at e) h)))
-      (λ t. rw (k, t) (rw (k, t) at e)))
-      (λ k. rw k (rw k at e))
-    where
-      done-false : Done ≡ r → isDone r ≡ false → true ≡ false
-      done-false u h = ap isDone u ∙ h
+  look-refused wr wt r e h = first-two wr wt ∙ checked-first s rs ts later r e h
 
   module _ {n m : ℕ} {v : Survey} (b : Start s rs ts n m v) where
     past-two : why ≡ firstBar later

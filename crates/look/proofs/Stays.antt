@@ -1,11 +1,13 @@
 -- Right tables as the paper's tables of their entries, for a call that leaves one as it is, or writes it.
 --   relays-whole, relays-zeros, tablets-whole, tablets-zeros    whole places, and zeros behind the entries
+--   relays-few                                                  no more places than may be lent
 --   relays-stay, tablets-stay                                   a table that is not written is the table of its entries
 -- Assumes nothing.
 use mathlib.Core.Bool.{Bool, true, _&&_}
 use mathlib.Core.Path.{_≡_, sym, ap, _∙_}
 use mathlib.Core.List.{List}
-use Prim.Native.Nat.{ℕ}
+use Prim.Native.Nat.{ℕ, _≤_}
+use borrow.Author.Tests.{leb-true}
 use lib.Dec.{leb}
 use lib.ListN.{length}
 use Rattle.ring.specs.Scheme.{positions}
@@ -40,6 +42,9 @@ module _ {s : ℕ} {rs ts : List ℕ} {n m : ℕ} {v : Survey} (b : Start s rs t
 
   pub relays-whole : relayWhole rs ≡ true
   relays-whole = and-left (relayWhole rs) (leb (relayPlaces rs) mostRelays) (shapes .0)
+
+  pub relays-few : relayPlaces rs ≤ mostRelays
+  relays-few = leb-true (relayPlaces rs) mostRelays (and-right (relayWhole rs) (leb (relayPlaces rs) mostRelays) (shapes .0))
 
   pub tablets-whole : tabletWhole ts ≡ true
   tablets-whole = and-left (tabletWhole ts) (leb (tabletPlaces ts) mostTablets) (shapes .1)

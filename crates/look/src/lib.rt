@@ -1,6 +1,6 @@
 // What every call starts from: is the scheme known, are the lent tables right, and what did the check learn?
 ghost use mathlib.Core.Path.{_≡_};
-ghost use Rattle.look.specs.Start.{Looks};
+ghost use Rattle.look.specs.Start.{FirstLook, verdict, Looks};
 
 pub struct Looked {
     pub refusal: rule::Refusal,
@@ -9,51 +9,65 @@ pub struct Looked {
     pub survey: survey::Survey,
 }
 
-pub fn look(scheme: u32, relays: &[u32], tablets: &[u32]) -> Looked
-    ensures { λ r. ⌜ Looks scheme (now (relays .entry)) (now (tablets .entry)) r ⌝ }
+// What is refused before the placement is looked at, or that nothing is, and how many relays and tablets there are then to look over;
+// none where something is refused.
+pub struct First {
+    pub refusal: rule::Refusal,
+    pub n: usize,
+    pub m: usize,
+}
+
+fn first_look(scheme: u32, relays: &[u32], tablets: &[u32]) -> First
+    ensures { λ f. ⌜ FirstLook scheme (now (relays .entry)) (now (tablets .entry)) f ⌝ }
 {
     let known = ring::scheme_known(scheme);
     if !known {
-        return nothing(rule::Refusal::SchemeUnknown);
+        return barred(rule::Refusal::SchemeUnknown);
     }
-    let n = lent::relays_used(relays);
-    let m = lent::tablets_used(tablets);
-    let relays_right = lent::relay_shape(relays, n);
-    if !relays_right {
-        return nothing(rule::Refusal::TablesNotRight);
+    let s = survey::shapes(relays, tablets);
+    if !s.right {
+        return barred(rule::Refusal::TablesNotRight);
     }
-    let tablets_right = lent::tablet_shape(tablets, m);
-    if !tablets_right {
-        return nothing(rule::Refusal::TablesNotRight);
-    }
-    let survey = survey::look_over(scheme, relays, tablets, n, m);
-    if !survey.right {
-        return nothing(rule::Refusal::TablesNotRight);
-    }
-    Looked {
+    First {
         refusal: rule::Refusal::Done,
-        n: n,
-        m: m,
-        survey: survey,
+        n: s.n,
+        m: s.m,
     }
 }
 
-// A refusal, with nothing learnt.
-fn nothing(refusal: rule::Refusal) -> Looked
-    ensures { λ r. ⌜ r .refusal ≡ refusal ⌝ }
+fn barred(refusal: rule::Refusal) -> First
+    ensures { λ f. ⌜ (f .refusal ≡ refusal) × (f .n ≡ 0) × (f .m ≡ 0) ⌝ }
 {
-    Looked {
+    First {
         refusal: refusal,
         n: 0,
         m: 0,
-        survey: survey::Survey {
-            right: false,
-            keys: [0u64; 256],
-            room: [0u32; 256],
-            next: [0u8; 256],
-            last: [0u16; 256],
-            home: [0u8; 4096],
-            slot: [0u8; 4096],
-        },
+    }
+}
+
+// The first refusal, and the second where the placement is not right.
+fn verdict(first: rule::Refusal, right: bool) -> rule::Refusal
+    ensures { λ r. ⌜ r ≡ verdict first right ⌝ }
+{
+    if right {
+        first
+    } else {
+        rule::Refusal::TablesNotRight
+    }
+}
+
+// A refused look goes over no tablet, and so has one way on as a look that is done.
+pub fn look(scheme: u32, relays: &[u32], tablets: &[u32]) -> Looked
+    ensures { λ r. ⌜ Looks scheme (now (relays .entry)) (now (tablets .entry)) r ⌝ }
+{
+    let f = first_look(scheme, relays, tablets);
+    let first = f.refusal;
+    let survey = survey::look_over(scheme, relays, tablets, f.n, f.m);
+    let refusal = verdict(first, survey.right);
+    Looked {
+        refusal: refusal,
+        n: f.n,
+        m: f.m,
+        survey: survey,
     }
 }

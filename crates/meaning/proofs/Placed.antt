@@ -14,13 +14,13 @@ use Rattle.ring.specs.Clockwise.{key}
 use Rattle.ring.proofs.Tests.{split, and-left, and-right}
 use Rattle.rule.specs.Entry.{Entry, numbers, total, besideOf}
 use Rattle.rule.specs.Rooms.{fill}
+use Rattle.lent.proofs.Loops.{all-at, all-of}
 use Rattle.lent.specs.Table.{mostRelays, relayNumber, tabletNumber, tabletRelay}
 use Rattle.lent.specs.Placing.{roomAfter, relayFor, placedAt, placed}
 use Rattle.lent.proofs.Placing.{placed-there}
 use Rattle.meaning.specs.Meaning.{relaysIn, tabletsIn}
 use Rattle.meaning.specs.Ascending.{Ascending}
 use Rattle.meaning.proofs.Places.{places-ext, beside-places}
-use Rattle.meaning.proofs.Shapes.{all-at, all-of}
 use Rattle.meaning.proofs.Choice.{first-beyond}
 use Rattle.meaning.proofs.Run.{seated, run-first, run-left, run-fill}
 

@@ -1,4 +1,5 @@
 -- Lent tables are right, as the loops find out, exactly where they fit and their entries are right by document 01.
+--   same-test         two tests that follow from one another are one
 --   right-meaning     the two tests are one
 --   right-rises       what right tables give to a loop
 --   right-found       each tablet's relay is found, and is the one written there
@@ -68,7 +69,7 @@ fits-tablets ts e =
     (and-left w f e, leb-true (tabletPlaces ts) mostTablets (and-right w f e))
 
 -- two tests that follow from one another are one
-same-test : (a b : Bool) → (a ≡ true → b ≡ true) → (b ≡ true → a ≡ true) → a ≡ b
+pub same-test : (a b : Bool) → (a ≡ true → b ≡ true) → (b ≡ true → a ≡ true) → a ≡ b
 same-test true b f g = sym (f refl)
 same-test false true f g = g refl
 same-test false false f g = refl
@@ -97,8 +98,8 @@ module _ (p : Positions) (rs ts : List ℕ) where
       rw (
         f .relaysFit,
         f .tabletsFit,
-        shape-from topLimit (relayNumber rs) (relayLimit rs) n (relayPlaces rs) (f .relays),
-        shape-from topNumber (tabletNumber ts) (tabletRelay ts) m (tabletPlaces ts) (f .tablets),
+        shape-from topLimit (relayNumber rs) (relayLimit rs) n (relayPlaces rs) n-most (f .relays),
+        shape-from topNumber (tabletNumber ts) (tabletRelay ts) m (tabletPlaces ts) m-most (f .tablets),
       )
       (placed-from p rs ts n m (facts-few f) (f .relays .numbers) (f .tablets .numbers) (f .ruled))
 
@@ -159,13 +160,13 @@ module _ (p : Positions) (rs ts : List ℕ) where
         let e₁ : ((k₃ && k₄) && k₅) ≡ true = and-right (k₁ && k₂) ((k₃ && k₄) && k₅) e in
         let t : (k₃ && k₄) ≡ true = and-left (k₃ && k₄) k₅ e₁ in
         let sr : Shaped topLimit (relayNumber rs) (relayLimit rs) n (relayPlaces rs) =
-        shape-is topLimit (relayNumber rs) (relayLimit rs) n (relayPlaces rs) n-most (relay-number-word wr) (and-right k₁ k₂ r) in
+        shape-is topLimit (relayNumber rs) (relayLimit rs) n (relayPlaces rs) (relay-number-word wr) (and-right k₁ k₂ r) in
         let fr : k₁ ≡ true = and-left k₁ k₂ r in
         record {
           relaysFit = fr;
           tabletsFit = and-left k₃ k₄ t;
           relays = sr;
-          tablets = shape-is topNumber (tabletNumber ts) (tabletRelay ts) m (tabletPlaces ts) m-most (tablet-number-word wt) (and-right k₃ k₄ t);
+          tablets = shape-is topNumber (tabletNumber ts) (tabletRelay ts) m (tabletPlaces ts) (tablet-number-word wt) (and-right k₃ k₄ t);
           ruled = placed-is p rs ts n m (omega (arith, n-most, fits-relays rs fr .1)) (sr .numbers) (and-right (k₃ && k₄) k₅ e₁);
         }
 

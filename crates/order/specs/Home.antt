@@ -1,7 +1,8 @@
 -- The home of a position among the relays in ring order (document 01, "The ring"), and where a walk to it may begin. Assumes nothing.
 use mathlib.Core.List.{List}
+use mathlib.Core.Path.{_≡_}
 use Prim.Native.Nat.{ℕ, _*_, _^_, _≤_, _<_}
-use lib.ListN.{getD}
+use lib.ListN.{length, getD}
 
 -- the least ring key that a relay at position p can have
 abbrev pub keyAt : ℕ → ℕ
@@ -27,3 +28,12 @@ arc = 2 ^ 22
 -- a slot for each of the first m arcs, where a walk to its first position may begin
 pub record Starts (keys : List ℕ) (n m : ℕ) (start : List ℕ) : Type 0 where
   pub begins : (b : ℕ) → b < m → Begins keys n (keyAt (b * arc)) (getD start b 0)
+
+-- in b the arcs from `from` up to r, which is past `top`, have slot k; the arcs before are as in a
+pub record Marked (from top k : ℕ) (a b : List ℕ) (r : ℕ) : Type 0 where
+  pub size : length b ≡ length a
+  pub onward : from ≤ r
+  pub past : top < r
+  pub within : r ≤ arcs
+  pub rest : (c : ℕ) → c < from → getD b c 0 ≡ getD a c 0
+  pub done : (c : ℕ) → from ≤ c → c < r → getD b c 0 ≡ k

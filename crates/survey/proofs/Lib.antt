@@ -2,3 +2,4 @@ pub mod Leading
 pub mod Shutting
 pub mod Led
 pub mod Seats
+pub mod Shaped

@@ -1,16 +1,17 @@
 // Are the lent tables right, and what does the check learn on its way (document 01, "The rule of placement")? The tablets are
 // taken by rising number; a row leads from every slot of the ring to the first slot with room.
 ghost use mathlib.Core.Path.{_≡_};
-ghost use mathlib.Core.Bool.{cond, true, _&&_};
+ghost use mathlib.Core.Bool.{cond, true, false, _&&_};
 ghost use Prim.Native.Nat.{_+_, _%_, _<_, _≤_};
 ghost use lib.Dec.{eqb, ltb};
 ghost use lib.ListN.{length, getD};
 ghost use Rattle.ring.specs.Scheme.{positions};
 ghost use Rattle.lent.specs.Table.{mostRelays, relayPlaces, relayNumber, RelaysIn, tabletPlaces, tabletRelay, TabletsIn};
 ghost use Rattle.lent.specs.Placing.{roomLess, placed, right};
-ghost use Rattle.order.specs.Keys.{slotRelay, Holds};
+ghost use Rattle.order.specs.Keys.{slotRelay};
 ghost use Rattle.survey.specs.Row.{slotRoom, Leads, Row, Redirected, Takes};
 ghost use Rattle.survey.specs.Seats.{Surveyed};
+ghost use Rattle.survey.specs.Tables.{ShapesOf};
 
 // ---- the row
 
@@ -78,10 +79,15 @@ fn from_u8(x: u8) -> usize
     x as usize
 }
 
-fn instead(x: u8, k: u8, to: u8) -> u8
-    ensures { λ r. ⌜ r ≡ cond (eqb x k) to x ⌝ }
+// x, and where it is k, the number that lies `by` further on round 256.
+fn instead(x: u8, k: u8, by: u8) -> u8
+    ensures { λ r. ⌜ r ≡ cond (eqb x k) ((k + by) % mostRelays) x ⌝ }
 {
-    if x == k { to } else { x }
+    if x == k {
+        std::num::wrapping_add_u8(x, by)
+    } else {
+        x
+    }
 }
 
 // Whoever was led to slot k is led to another.
@@ -89,9 +95,10 @@ fn redirect(next: &mut [u8; 256], k: u8, to: u8)
     requires { ⌜ length (now next) ≡ mostRelays ⌝ }
     ensures { λ r. ⌜ Redirected mostRelays k to (now (next .entry)) (now (next .exit)) ⌝ }
 {
+    let by = std::num::wrapping_sub_u8(to, k);
     let mut i: usize = 0;
     while i < 256 {
-        next[i] = instead(next[i], k, to);
+        next[i] = instead(next[i], k, by);
         i += 1;
     }
 }
@@ -143,7 +150,8 @@ pub fn look_over(scheme: u32, relays: &[u32], tablets: &[u32], n: usize, m: usiz
 {
     let position = lent::relay_positions(scheme, relays, n);
     let keys = order::ring_order(&position, n);
-    let start = order::starts(&keys, n);
+    let in_turn = order::in_turn(scheme);
+    let start = order::starts(&keys, n, in_turn);
     let mut room = lent::relay_limits(relays, n);
     let mut next = first_row(&keys, &room, n);
     let mut last = [0u16; 256];
@@ -155,7 +163,7 @@ pub fn look_over(scheme: u32, relays: &[u32], tablets: &[u32], n: usize, m: usiz
     let mut j: usize = 0;
     while j < m {
         let p = ring::tablet_at(scheme, lent::tablet_number(tablets, j));
-        h = order::home_of(&keys, &start, n, h, from, p);
+        h = order::home_of(&keys, &start, n, in_turn, h, from, p);
         from = p;
         let k = led_to(&next, h);
         let i = order::slot_relay(&keys, k);
@@ -180,20 +188,49 @@ pub fn look_over(scheme: u32, relays: &[u32], tablets: &[u32], n: usize, m: usiz
     }
 }
 
+// Are both tables as they must be, and how many relays and tablets have they? None where one of them is not.
+pub struct Counts {
+    pub right: bool,
+    pub n: usize,
+    pub m: usize,
+}
+
+pub fn shapes(relays: &[u32], tablets: &[u32]) -> Counts
+    ensures { λ s. ⌜ ShapesOf (now (relays .entry)) (now (tablets .entry)) (s .right) (s .n) (s .m) ⌝ }
+{
+    let r = lent::relay_entries(relays);
+    if !r.right {
+        return no_shapes();
+    }
+    let t = lent::tablet_entries(tablets);
+    if !t.right {
+        return no_shapes();
+    }
+    Counts {
+        right: true,
+        n: r.count,
+        m: t.count,
+    }
+}
+
+fn no_shapes() -> Counts
+    ensures { λ s. ⌜ (s .right ≡ false) × (s .n ≡ 0) × (s .m ≡ 0) ⌝ }
+{
+    Counts {
+        right: false,
+        n: 0,
+        m: 0,
+    }
+}
+
 // Are the lent tables right?
 pub fn right(scheme: u32, relays: &[u32], tablets: &[u32]) -> bool
     ensures { λ r. ⌜ r ≡ right (positions scheme) (now (relays .entry)) (now (tablets .entry)) ⌝ }
 {
-    let n = lent::relays_used(relays);
-    let m = lent::tablets_used(tablets);
-    let relays_right = lent::relay_shape(relays, n);
-    if !relays_right {
+    let s = shapes(relays, tablets);
+    if !s.right {
         return false;
     }
-    let tablets_right = lent::tablet_shape(tablets, m);
-    if !tablets_right {
-        return false;
-    }
-    let survey = look_over(scheme, relays, tablets, n, m);
+    let survey = look_over(scheme, relays, tablets, s.n, s.m);
     survey.right
 }

@@ -1,20 +1,18 @@
 -- `survey::look_over` meets its contract. The invariant: the first j tablets are placed by the rule and surveyed, and a walk to the last
 -- position, or past it, may begin at h. Assumes nothing.
-use mathlib.Core.Bool.{Bool, true, false, false≢true}
-use mathlib.Core.List.{List}
-use mathlib.Core.Path.{_≡_, refl, sym, ap, _∙_, subst}
-use Prim.Native.Nat.{ℕ, _-_, _≤_, _<_}
+use mathlib.Core.Bool.{true, false, false≢true}
+use mathlib.Core.Path.{_≡_, refl, sym, ap, _∙_}
+use Prim.Native.Nat.{_-_, _≤_, _<_}
 use denote.Ref.{now}
 use native.Mathlib.Omega.{arith}
 use borrow.Author.Tests.{not-true, not-false, ltb-true}
-use lib.Dec.{ltb, eqb}
+use lib.Dec.{ltb}
 use lib.ListN.{getD}
 use Rattle.ring.specs.Scheme.{positions}
 use Rattle.lent.specs.Table.{mostTablets, tabletNumber}
 use Rattle.lent.specs.Shape.{all}
-use Rattle.lent.specs.Placing.{relayFor, placedAt, placed}
+use Rattle.lent.specs.Placing.{placedAt, placed}
 use Rattle.lent.proofs.Loops.{at-end, all-more, all-false, both-left}
-use Rattle.order.specs.Keys.{Ordered}
 use Rattle.order.specs.Home.{keyAt, Home, Begins}
 use Rattle.order.proofs.Home.{begins-none, home-at}
 use Rattle.survey.specs.Seats.{Surveyed}
@@ -23,28 +21,28 @@ use Rattle.survey.proofs.look_over.Statement.{statement}
 use Rattle.survey.proofs.look_over.Tie as tie
 
 abbrev Inv-loop : tie.InvT-loop
-Inv-loop scheme relays tablets n m keys start room₀ next₀ last₀ home₀ slot₀ right₀ from₀ h₀ j₀ room next last home slot right from h j =
+Inv-loop scheme relays tablets n m keys in-turn start room₀ next₀ last₀ home₀ slot₀ right₀ from₀ h₀ j₀ room next last home slot right from h j =
     (j ≤ m) × (right ≡ true) × (true ≡ placed (positions scheme) relays tablets n j) × Begins keys n (keyAt (from .0)) h × Surveyed (positions scheme) relays tablets n j keys room next last home slot
 
 abbrev μ-loop : tie.MeasureT-loop
-μ-loop scheme relays tablets n m keys start room₀ next₀ last₀ home₀ slot₀ right₀ from₀ h₀ j₀ room next last home slot right from h j = m - j
+μ-loop scheme relays tablets n m keys in-turn start room₀ next₀ last₀ home₀ slot₀ right₀ from₀ h₀ j₀ room next last home slot right from h j = m - j
 
 -- tablet j's number is within the table
 there : (c : tie.In-loop Inv-loop μ-loop) → c .before .loop .j < mostTablets
-there c = omega (arith, c .loop-test .taken, c .before .before .before .before .before .before .before .before .before .before .before .before .before .pre .1 .few)
+there c = omega (arith, c .loop-test .taken, c .before .before .before .before .before .before .before .before .before .before .before .before .before .before .pre .1 .few)
 
 -- where tablet j stands
-stands : (c : tie.After-tablet-at Inv-loop μ-loop) → (let s = c .before .before .before .before .before .before .before .before .before .before .before .before .before .before .before .args in c .tablet-at .result .0 ≡ positions (s .scheme) .tabletAt (tabletNumber (now (s .tablets)) (c .before .before .before .loop .j)))
+stands : (c : tie.After-tablet-at Inv-loop μ-loop) → (let s = c .before .before .before .before .before .before .before .before .before .before .before .before .before .before .before .before .args in c .tablet-at .result .0 ≡ positions (s .scheme) .tabletAt (tabletNumber (now (s .tablets)) (c .before .before .before .loop .j)))
 stands c = c .tablet-at .ensures ∙ ap (positions _ .tabletAt) (c .before .tablet-number .ensures)
 
 -- and its seat
 seat : (c : tie.After-slot-relay Inv-loop μ-loop)
-    → (let s = c .before .before .before .before .before .before .before .before .before .before .before .before .before .before .before .before .before .before .before .before .before .before .args in let l = c .before .before .before .before .before .before .before .before .before .before .loop in Seat (positions (s .scheme)) (now (s .relays)) (now (s .tablets)) (s .n) (l .j) (c .before .before .before .before .before .before .before .before .before .before .before .before .before .before .before .before .before .ring-order .result) (l .room) (l .next) (l .last) (l .home) (l .slot) (c .before .before .before .before .home-of .result) (c .before .before .led-to .result) (c .slot-relay .result))
+    → (let s = c .before .before .before .before .before .before .before .before .before .before .before .before .before .before .before .before .before .before .before .before .before .before .before .args in let l = c .before .before .before .before .before .before .before .before .before .before .loop in Seat (positions (s .scheme)) (now (s .relays)) (now (s .tablets)) (s .n) (l .j) (c .before .before .before .before .before .before .before .before .before .before .before .before .before .before .before .before .before .before .ring-order .result) (l .room) (l .next) (l .last) (l .home) (l .slot) (c .before .before .before .before .home-of .result) (c .before .before .led-to .result) (c .slot-relay .result))
 seat c =
     let e = stands (c .before .before .before .before .before .before .before) in
     record {
       survey = c .before .before .before .before .before .before .before .before .before .before .loop .inv .4;
-      few = c .before .before .before .before .before .before .before .before .before .before .before .before .before .before .before .before .before .before .before .before .before .before .pre .0 .few;
+      few = c .before .before .before .before .before .before .before .before .before .before .before .before .before .before .before .before .before .before .before .before .before .before .before .pre .0 .few;
       small = rw (← e) (omega (arith, c .before .before .before .before .before .before .before .tablet-at .ok));
       from = home-at e (c .before .before .before .before .home-of .ensures);
       led-to = c .before .before .led-to .ensures .0;
@@ -53,7 +51,7 @@ seat c =
 
 -- the relay written beside it is the rule's, or not
 beside : (c : tie.After-stands-beside Inv-loop μ-loop)
-    → (let s = c .before .before .before .before .before .before .before .before .before .before .before .before .before .before .before .before .before .before .before .before .before .before .before .before .args in c .stands-beside .result ≡ placedAt (positions (s .scheme)) (now (s .relays)) (now (s .tablets)) (s .n) (c .before .before .before .before .before .before .before .before .before .before .before .before .loop .j))
+    → (let s = c .before .before .before .before .before .before .before .before .before .before .before .before .before .before .before .before .before .before .before .before .before .before .before .before .before .args in c .stands-beside .result ≡ placedAt (positions (s .scheme)) (now (s .relays)) (now (s .tablets)) (s .n) (c .before .before .before .before .before .before .before .before .before .before .before .before .loop .j))
 beside c = seat-right (seat (c .before .before)) (c .stands-beside .ensures)
 
 -- where it is, the relay has room
@@ -66,28 +64,31 @@ relay-positions-requires c κs = omega arith
 ring-order-requires : tie.Need-ring-order-requires Inv-loop μ-loop
 ring-order-requires c κs = c .before .before .before .before .pre .0 .few
 
+in-turn-requires : tie.Need-in-turn-requires Inv-loop μ-loop
+in-turn-requires c κs = tt
+
 starts-requires : tie.Need-starts-requires Inv-loop μ-loop
-starts-requires c κs = (c .before .before .before .before .before .before .pre .0 .few, c .before .ring-order .ensures .rises)
+starts-requires c κs = (c .before .before .before .before .before .before .before .pre .0 .few, c .before .before .ring-order .ensures .rises)
 
 relay-limits-requires : tie.Need-relay-limits-requires Inv-loop μ-loop
 relay-limits-requires c κs = omega arith
 
 first-row-requires : tie.Need-first-row-requires Inv-loop μ-loop
-first-row-requires c κs = c .before .before .before .before .before .before .before .before .before .before .pre .0 .few
+first-row-requires c κs = c .before .before .before .before .before .before .before .before .before .before .before .pre .0 .few
 
 loop-holds : tie.Need-loop-holds Inv-loop μ-loop
 unfolding placed all
 loop-holds c =
-    (omega arith, refl, refl, begins-none _ _ _, surveyed-none (c .before .before .before .before .before .before .before .before .relay-positions .ensures) (c .before .before .before .before .before .before .ring-order .ensures) (c .before .before .before .relay-limits .ensures) (c .first-row .ensures) refl refl)
+    (omega arith, refl, refl, begins-none _ _ _, surveyed-none (c .before .before .before .before .before .before .before .before .before .relay-positions .ensures) (c .before .before .before .before .before .before .before .ring-order .ensures) (c .before .before .before .relay-limits .ensures) (c .first-row .ensures) refl refl)
 
 tablet-number-requires : tie.Need-tablet-number-requires Inv-loop μ-loop
-tablet-number-requires c κs = omega (arith, c .loop-test .taken, c .before .before .before .before .before .before .before .before .before .before .before .before .before .pre .1 .there)
+tablet-number-requires c κs = omega (arith, c .loop-test .taken, c .before .before .before .before .before .before .before .before .before .before .before .before .before .before .pre .1 .there)
 
 tablet-at-requires : tie.Need-tablet-at-requires Inv-loop μ-loop
 tablet-at-requires c κs = tt
 
 home-of-requires : tie.Need-home-of-requires Inv-loop μ-loop
-home-of-requires c κs = (c .before .before .before .before .before .before .before .before .before .before .before .before .before .before .before .before .before .pre .0 .few, c .before .before .before .before .before .before .before .before .before .before .before .before .ring-order .ensures .rises, c .before .before .before .before .before .before .before .before .before .before .starts .ensures, c .before .before .before .before .before .loop .inv .3)
+home-of-requires c κs = (c .before .before .before .before .before .before .before .before .before .before .before .before .before .before .before .before .before .before .pre .0 .few, c .before .before .before .before .before .before .before .before .before .before .before .before .before .ring-order .ensures .rises, c .before .before .before .before .before .before .before .before .before .before .starts .ensures, c .before .before .before .before .before .loop .inv .3)
 
 led-to-requires : tie.Need-led-to-requires Inv-loop μ-loop
 led-to-requires c κs = tt
@@ -98,7 +99,7 @@ slot-relay-requires c κs = c .before .led-to .ensures .1
 stands-beside-requires : tie.Need-stands-beside-requires Inv-loop μ-loop
 stands-beside-requires c κs =
     let d = c .before in
-    (d .slot-relay .ensures .1, λ w. omega (arith, seat-below (seat d) w, d .before .before .before .before .before .before .before .before .before .before .before .before .before .before .before .before .before .before .before .before .before .before .pre .0 .there), omega (arith, d .before .before .before .before .before .before .before .before .before .loop-test .taken, d .before .before .before .before .before .before .before .before .before .before .before .before .before .before .before .before .before .before .before .before .before .before .pre .1 .there))
+    (d .slot-relay .ensures .1, λ w. omega (arith, seat-below (seat d) w, d .before .before .before .before .before .before .before .before .before .before .before .before .before .before .before .before .before .before .before .before .before .before .before .pre .0 .there), omega (arith, d .before .before .before .before .before .before .before .before .before .loop-test .taken, d .before .before .before .before .before .before .before .before .before .before .before .before .before .before .before .before .before .before .before .before .before .before .before .pre .1 .there))
 
 cast-home : tie.Need-cast-home Inv-loop μ-loop
 cast-home c = omega arith
@@ -159,6 +160,7 @@ look-over-spec =
     μ-loop
     relay-positions-requires
     ring-order-requires
+    in-turn-requires
     starts-requires
     relay-limits-requires
     first-row-requires

@@ -1,5 +1,9 @@
 -- `survey::redirect` meets its contract. The invariant: the first i slots are led on, the others as they were. Assumes nothing.
-use Prim.Native.Nat.{_-_, _≤_}
+use mathlib.Core.Bool.{cond}
+use mathlib.Core.Path.{_≡_, ap, _∙_}
+use Prim.Native.Nat.{ℕ, _+_, _-_, _%_, _≤_}
+use lib.Dec.{eqb}
+use lib.ListN.{getD}
 use Rattle.lent.specs.Table.{mostRelays}
 use Rattle.survey.specs.Row.{Redirected}
 use Rattle.survey.proofs.Shutting.{redirected-none, redirected-more, redirected-end}
@@ -8,10 +12,17 @@ use Rattle.survey.proofs.redirect.Statement.{statement}
 use Rattle.survey.proofs.redirect.Tie as tie
 
 abbrev Inv-loop : tie.InvT-loop
-Inv-loop next₀ k to i₀ next i = (i ≤ mostRelays) × Redirected i k to next₀ next
+Inv-loop next₀ k to by i₀ next i = (i ≤ mostRelays) × Redirected i k to next₀ next
 
 abbrev μ-loop : tie.MeasureT-loop
-μ-loop next₀ k to i₀ next i = mostRelays - i
+μ-loop next₀ k to by i₀ next i = mostRelays - i
+
+-- from k it lies so far to where they are led
+round : (c : tie.After-wrapping-sub-u8 Inv-loop μ-loop) → (c .before .args .k + c .wrapping-sub-u8 .result) % mostRelays ≡ c .before .args .to
+round c = omega (arith, c .wrapping-sub-u8 .ensures)
+
+wrapping-sub-u8-requires : tie.Need-wrapping-sub-u8-requires Inv-loop μ-loop
+wrapping-sub-u8-requires c κs = tt
 
 loop-holds : tie.Need-loop-holds Inv-loop μ-loop
 loop-holds c = (omega arith, redirected-none _ _ _)
@@ -32,7 +43,11 @@ loop-less : tie.Need-loop-less Inv-loop μ-loop
 loop-less c = omega arith
 
 loop-again : tie.Need-loop-again Inv-loop μ-loop
-loop-again c = (omega arith, redirected-more _ (c .before .before .before .loop .inv .1) (omega (arith, c .before .before .before .loop .inv .1 .size)) (c .instead .ensures))
+loop-again c =
+    let l = c .before .before .before .loop in
+    let x = getD (l .next) (l .i) 0 in
+    let b = c .before .before .before .before in
+    (omega arith, redirected-more _ (l .inv .1) (omega (arith, l .inv .1 .size)) (c .instead .ensures ∙ ap (λ (t : ℕ). cond (eqb x (b .before .args .k)) t x) (round b)))
 
 returns : tie.Need-returns Inv-loop μ-loop
 returns c = redirected-end (c .before .loop .inv .0) (c .loop-test .left) (c .before .loop .inv .1)
@@ -43,6 +58,7 @@ redirect-spec =
     (tie.spec
     Inv-loop
     μ-loop
+    wrapping-sub-u8-requires
     loop-holds
     element-copy-out-instead
     instead-requires
