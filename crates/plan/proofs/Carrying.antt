@@ -2,8 +2,8 @@
 --   move-room, moved-none, moved-made                            one tablet stays or moves
 --   carrying-none, carrying-moves, carrying-more, carrying-end, carrying-list   no tablet has its new relay; one more may get it, and gets it; all have
 -- Assumes nothing.
-use mathlib.Core.Bool.{Bool, true, false}
-use mathlib.Core.List.{List, [], _∷_, _++_}
+use mathlib.Core.Bool.{Bool, false}
+use mathlib.Core.List.{List, [], _∷_}
 use mathlib.Core.Logic.{⊎-elim}
 use mathlib.Core.Path.{_≡_, refl, sym, ap, ap₂, _∙_}
 use Prim.Native.Nat.{ℕ, _+_, _*_, _≤_, _<_}
@@ -16,7 +16,6 @@ use Rattle.ring.proofs.Tests.{split}
 use Rattle.rule.specs.declared.Move.{Move}
 use Rattle.lent.specs.Table.{relayNumber, tabletPlaces, tabletNumber, tabletRelay}
 use Rattle.lent.proofs.Loops.{eq-or-ne}
-use Rattle.meaning.specs.Meaning.{places}
 use Rattle.meaning.proofs.Places.{places-ext}
 use Rattle.write.specs.Tables.{listed}
 use Rattle.write.specs.Places.{SetBeside}
@@ -69,7 +68,7 @@ carrying-none rs relay ts ms = record {
   count = refl;
 }
 
-pub carrying-end : {rs relay ts ts′ ms ms′ : List ℕ} {m j c : ℕ} → j ≤ m → m ≤ j → Carrying rs relay ts ts′ ms ms′ j c → Carried rs relay ts ts′ ms ms′ m
+pub carrying-end : {rs relay ts ts′ ms ms′ : List ℕ} {m j c : ℕ} → j ≤ m → m ≤ j → Carrying rs relay ts ts′ ms ms′ j c → Carried rs relay ts ts′ ms ms′ m c
 carrying-end {rs} {relay} {ts} {ts′} {ms} {ms′} {m} {j} l u s = record {
   tablets = record {
     size = s .size;
@@ -78,6 +77,7 @@ carrying-end {rs} {relay} {ts} {ts′} {ms} {ms′} {m} {j} l u s = record {
     relay = λ i h. s .others i (omega arith);
   };
   list = s .list ∙ ap (λ (k : ℕ). listed (changesTo rs relay ts k) ms) (le-antisymm l u);
+  count = s .count ∙ ap (λ (k : ℕ). length (changesTo rs relay ts k)) (le-antisymm l u);
 }
 
 -- the list is as long as it was

@@ -1,17 +1,17 @@
 -- The moves to other relays, a tablet at a time.
 --   changes-same, changes-other    one tablet more: it stays, or it moves
---   changes-fewer, count-most, count-more      how many move
+--   changes-fewer, count-most, count-fits, count-more      how many move
 --   changes-ext                    two ways to give the same relays
 --   moved-changes                  they are the moves that document 01 defines
 -- Assumes nothing.
-use mathlib.Core.Bool.{Bool, true, false, not, _&&_, cond}
+use mathlib.Core.Bool.{true, false, not, _&&_, cond}
 use mathlib.Core.Path.{_≡_, refl, sym, ap, ap₂, _∙_}
 use mathlib.Core.List.{List, [], _∷_, _++_, append-nil}
 use Prim.Native.Nat.{ℕ, zero, suc, _+_, _-_, _≤_, _<_}
 use native.Mathlib.Numerals.{add-one}
 use native.Mathlib.Omega.{arith}
-use borrow.Author.Tests.{eq-eqb, ne-eqb}
-use lib.Dec.{eqb}
+use borrow.Author.Tests.{eq-eqb, ne-eqb, le-leb}
+use lib.Dec.{eqb, leb}
 use lib.ListN.{length, length-append}
 use Rattle.ring.proofs.Tests.{split}
 use Rattle.rule.specs.declared.Move.{Move}
@@ -75,6 +75,10 @@ module _ (f b d : ℕ → ℕ) where
 pub count-most : (rs relay ts : List ℕ) (j : ℕ) → length (changesTo rs relay ts j) ≤ j
 unfolding changesTo
 count-most rs relay ts j = changes-most (tabletNumber ts) (tabletRelay ts) (newRelay rs relay) j
+
+-- as many places as tablets are enough
+pub count-fits : (rs relay ts : List ℕ) (m places : ℕ) → m ≤ places → true ≡ leb (length (changesTo rs relay ts m)) places
+count-fits rs relay ts m places h = sym (le-leb (length (changesTo rs relay ts m)) places (omega (arith, count-most rs relay ts m)))
 
 -- how many of the first tablets, with one more
 pub count-more : (rs relay ts : List ℕ) {c v : ℕ} (j : ℕ) → c ≡ length (changesTo rs relay ts j) → v ≡ cond (eqb (tabletRelay ts j) (newRelay rs relay j)) 0 1

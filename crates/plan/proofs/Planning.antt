@@ -2,17 +2,16 @@
 --   ruled-changes                            moves to the relays found are the moves to the rule's
 --   limits-planned, list-planned, planned    each way out of a plan
 -- Assumes nothing.
-use mathlib.Core.Bool.{true, false}
+use mathlib.Core.Bool.{Bool, true, false}
 use mathlib.Core.List.{List}
-use mathlib.Core.Path.{_≡_, refl, sym, ap, _∙_}
+use mathlib.Core.Path.{_≡_, sym, ap, _∙_}
 use Prim.Native.Nat.{ℕ, _≤_, _<_}
-use native.Mathlib.Omega.{arith}
-use borrow.Author.Tests.{lt-ltb, le-ltb}
+use borrow.Author.Tests.{lt-ltb, le-ltb, leb-true, leb-false}
+use lib.Dec.{leb}
 use lib.ListN.{length}
 use Rattle.ring.specs.Scheme.{Positions}
 use Rattle.ring.proofs.Tests.{true-false}
 use Rattle.rule.specs.declared.Refusal.the-variants.{Done, LimitsTooSmall, MoveListTooShort}
-use Rattle.rule.specs.declared.Move.{Move}
 use Rattle.rule.specs.Entry.{total}
 use Rattle.rule.specs.Refusals.{isDone, firstBar}
 use Rattle.lent.specs.Table.{relayNumber, tabletNumber, tabletRelay}
@@ -20,7 +19,7 @@ use Rattle.meaning.specs.Meaning.{relaysIn}
 use Rattle.refill.specs.Refilled.{Refilled}
 use Rattle.plan.specs.declared.Plan.{Plan}
 use Rattle.plan.specs.Changes.{newRelay, changesTo, ruledRelay, ruledChanges}
-use Rattle.plan.specs.Plan.{planRefusal, Settled, Planned}
+use Rattle.plan.specs.Plan.{planRefusal, Planned}
 use Rattle.plan.proofs.Changing.{changes-ext}
 
 pub ruled-relay : {p : Positions} {rs ts relay : List ℕ} {n m : ℕ} → Refilled p rs ts n m relay → (j : ℕ) → j < m → newRelay rs relay j ≡ ruledRelay p rs ts n j
@@ -37,20 +36,22 @@ module _ (p : Positions) (rs ts : List ℕ) (n m places : ℕ) (r : Plan) where
   unfolding planRefusal firstBar isDone
   limits-planned e h = record { refusal = e ∙ rw (lt-ltb _ _ h); settled = λ d. absurd (true-false (sym d ∙ ap isDone e)) }
 
-  module _ (enough : m ≤ total (relaysIn rs n)) {relay : List ℕ} (f : Refilled p rs ts n m relay) {c : ℕ} (ec : c ≡ length (changesTo rs relay ts m)) where
-    same-count : length (ruledChanges p rs ts n m) ≡ c
-    same-count = sym (ec ∙ ap length (ruled-changes f))
+  module _ (enough : m ≤ total (relaysIn rs n)) {relay : List ℕ} (f : Refilled p rs ts n m relay) {b : Bool} (eb : b ≡ leb (length (changesTo rs relay ts m)) places) where
+    same-count : length (ruledChanges p rs ts n m) ≡ length (changesTo rs relay ts m)
+    same-count = sym (ap length (ruled-changes f))
 
-    pub list-planned : r .refusal ≡ MoveListTooShort → places < c → Planned p rs ts n m places r
+    pub list-planned : r .refusal ≡ MoveListTooShort → b ≡ false → Planned p rs ts n m places r
     unfolding planRefusal firstBar isDone
     list-planned e h = record {
-      refusal = e ∙ rw (le-ltb _ _ enough, same-count, lt-ltb places c h);
+      refusal = e ∙ rw (le-ltb _ _ enough, same-count, lt-ltb _ _ (leb-false _ _ (sym eb ∙ h)));
       settled = λ d. absurd (true-false (sym d ∙ ap isDone e));
     }
 
-    pub planned : r .refusal ≡ Done → r .moves ≡ c → r .relay ≡ relay → c ≤ places → Planned p rs ts n m places r
+    pub planned : r .refusal ≡ Done → r .relay ≡ relay → b ≡ true → Planned p rs ts n m places r
     unfolding planRefusal firstBar
-    planned e em er h = record {
-      refusal = e ∙ rw (le-ltb _ _ enough, same-count, le-ltb places c h);
-      settled = λ d. record { enough = enough; refilled = rw er f; count = em ∙ ec ∙ ap (λ (l : List ℕ). length (changesTo rs l ts m)) (sym er); fits = omega arith };
-    }
+    planned e er h =
+        let l : length (changesTo rs relay ts m) ≤ places = leb-true _ _ (sym eb ∙ h) in
+        record {
+          refusal = e ∙ rw (le-ltb _ _ enough, same-count, le-ltb _ _ l);
+          settled = λ d. record { enough = enough; refilled = rw er f; fits = rw er l };
+        }

@@ -30,6 +30,7 @@ pub record Carries (rs relay ts ms : List ℕ) (m : ℕ) : Type 0 where
   pub seated : Seated rs relay ts m
   pub room : 3 * length (changesTo rs relay ts m) ≤ length ms
 
-pub record Carried (rs relay ts ts′ ms ms′ : List ℕ) (m : ℕ) : Type 0 where
+pub record Carried (rs relay ts ts′ ms ms′ : List ℕ) (m c : ℕ) : Type 0 where
   pub tablets : WroteTablets ts ts′ m (places (tabletNumber ts) (newRelay rs relay) m)
   pub list : ms′ ≡ listed (changesTo rs relay ts m) ms
+  pub count : c ≡ length (changesTo rs relay ts m)

@@ -14,6 +14,7 @@ use Rattle.rule.specs.Refusals.{isDone, bar, firstBar}
 use Rattle.lent.specs.Table.{relayPlaces, relayNumber, relayLimit, RelaysIn, TabletsIn}
 use Rattle.meaning.specs.Meaning.{relaysIn}
 use Rattle.meaning.specs.Ascending.{Ascending}
+use Rattle.homes.specs.Homes.{Homes}
 use Rattle.refill.specs.Refilled.{Refilled}
 use Rattle.plan.specs.declared.Plan.{Plan}
 use Rattle.plan.specs.Changes.{changesTo, ruledChanges}
@@ -23,11 +24,13 @@ pub record Limited (rs : List ℕ) (n : ℕ) : Type 0 where
   pub relays : RelaysIn rs n
   pub limits : (i : ℕ) → i < n → relayLimit rs i ≤ mostLimit
 
--- by rising number, and m tablets
-pub record Plans (rs ts : List ℕ) (n m : ℕ) : Type 0 where
+-- by rising number, in ring order, with m tablets and their homes
+pub record Plans (rs ts : List ℕ) (n m : ℕ) (keys home : List ℕ) : Type 0 where
   pub limited : Limited rs n
   pub rising : Ascending (relayNumber rs) n
   pub tablets : TabletsIn ts m
+  pub positions : Positions
+  pub homes : Homes positions rs ts n m keys home
 
 -- each of the first m tablets has a place among the relays
 pub record Seated (rs relay ts : List ℕ) (m : ℕ) : Type 0 where
@@ -42,13 +45,12 @@ planRefusal p rs ts n m places =
     ∷ bar (ltb places (length (ruledChanges p rs ts n m))) MoveListTooShort
     ∷ [])
 
--- neither applies: each tablet's relay, and how many move
-pub record Settled (p : Positions) (rs ts : List ℕ) (n m places : ℕ) (moves : ℕ) (relay : List ℕ) : Type 0 where
+-- neither applies: each tablet's relay, and room for the moves
+pub record Settled (p : Positions) (rs ts : List ℕ) (n m places : ℕ) (relay : List ℕ) : Type 0 where
   pub enough : m ≤ total (relaysIn rs n)
   pub refilled : Refilled p rs ts n m relay
-  pub count : moves ≡ length (changesTo rs relay ts m)
-  pub fits : moves ≤ places
+  pub fits : length (changesTo rs relay ts m) ≤ places
 
 pub record Planned (p : Positions) (rs ts : List ℕ) (n m places : ℕ) (r : Plan) : Type 0 where
   pub refusal : r .refusal ≡ planRefusal p rs ts n m places
-  pub settled : isDone (r .refusal) ≡ true → Settled p rs ts n m places (r .moves) (r .relay)
+  pub settled : isDone (r .refusal) ≡ true → Settled p rs ts n m places (r .relay)

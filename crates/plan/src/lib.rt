@@ -3,19 +3,20 @@
 ghost use mathlib.Core.Bool.{cond};
 ghost use mathlib.Core.Path.{_≡_};
 ghost use Prim.Native.Nat.{_+_, _<_};
-ghost use lib.Dec.{eqb};
+ghost use lib.Dec.{eqb, leb};
 ghost use lib.ListN.{length, getD};
-ghost use Rattle.ring.specs.Scheme.{positions};
+ghost use Rattle.ring.specs.Scheme.{Positions};
 ghost use Rattle.rule.specs.Entry.{total};
-ghost use Rattle.lent.specs.Table.{relayPlaces, relayNumber, mostTablets, tabletPlaces, tabletRelay};
+ghost use Rattle.lent.specs.Table.{relayPlaces, mostTablets, tabletPlaces, tabletRelay};
 ghost use Rattle.meaning.specs.Meaning.{relaysIn};
+ghost use Rattle.homes.specs.Homes.{Homes};
 ghost use Rattle.plan.specs.Changes.{newRelay, changesTo};
 ghost use Rattle.plan.specs.Plan.{Limited, Plans, Seated, Planned};
 ghost use Rattle.plan.specs.Carried.{Moves, Moved, Carries, Carried};
 
+// A refusal; or for each tablet the place of its relay.
 pub struct Plan {
     pub refusal: rule::Refusal,
-    pub moves: u32,
     pub relay: [u8; 4096],
 }
 
@@ -73,6 +74,17 @@ fn count_moves(relays: &[u32], relay: &[u8; 4096], tablets: &[u32], m: usize) ->
     c
 }
 
+// Is there room for the moves in a list of so many places? No more tablets move than there are.
+fn moves_fit(relays: &[u32], relay: &[u8; 4096], tablets: &[u32], m: usize, places: usize) -> bool
+    requires { ⌜ Seated (now relays) (now relay) (now tablets) m ⌝ }
+    ensures { λ b. ⌜ b ≡ leb (length (changesTo (now (relays .entry)) (now (relay .entry)) (now (tablets .entry)) m)) places ⌝ }
+{
+    if m <= places {
+        return true;
+    }
+    count_moves(relays, relay, tablets, m) <= places
+}
+
 // ---- the plan
 
 // A refusal, with nothing planned.
@@ -81,37 +93,35 @@ fn no_plan(refusal: rule::Refusal) -> Plan
 {
     Plan {
         refusal: refusal,
-        moves: 0,
         relay: [0u8; 4096],
     }
 }
 
-// What the n relays do to the m tablets, for a move list of so many places.
-pub fn work_out(
-    scheme: u32,
+// What the n relays, in ring order, do to the m tablets, whose homes are known, for a move list of so many places.
+pub fn work_out<'a>(
     relays: &[u32],
     tablets: &[u32],
+    keys: &'a [u64; 256],
+    home: &'a [u8; 4096],
     n: usize,
     m: usize,
     places: usize,
 ) -> Plan
-    requires { ⌜ Plans (now relays) (now tablets) n m ⌝ }
-    ensures { λ r. ⌜ Planned (positions scheme) (now (relays .entry)) (now (tablets .entry)) n m places r ⌝ }
+    requires { ⌜ Plans (now relays) (now tablets) n m (now keys) (now home) ⌝ }
+    ensures { λ r. ⌜ ((p : Positions) → Homes p (now (relays .entry)) (now (tablets .entry)) n m (now (keys .entry)) (now (home .entry)) → Planned p (now (relays .entry)) (now (tablets .entry)) n m places r) ⌝ }
 {
     if limit_sum(relays, n) < m {
         return no_plan(rule::Refusal::LimitsTooSmall);
     }
-    let relay = refill::refill(scheme, relays, tablets, n, m);
-    let count = count_moves(relays, &relay, tablets, m);
-    if places < count {
-        return no_plan(rule::Refusal::MoveListTooShort);
+    let relay = refill::refill(relays, keys, home, n, m);
+    let fit = moves_fit(relays, &relay, tablets, m, places);
+    if fit {
+        return Plan {
+            refusal: rule::Refusal::Done,
+            relay: relay,
+        };
     }
-    let moves = count as u32;
-    Plan {
-        refusal: rule::Refusal::Done,
-        moves: moves,
-        relay: relay,
-    }
+    no_plan(rule::Refusal::MoveListTooShort)
 }
 
 // ---- the writing
@@ -139,16 +149,16 @@ fn move_one(
     c + 1
 }
 
-// Every tablet gets the relay that the array gives the place of, and the moves are listed.
+// Every tablet gets the relay that the array gives the place of, and the moves are listed; the answer is how many.
 pub fn carry_out(
     relays: &[u32],
     relay: &[u8; 4096],
     tablets: &mut [u32],
     moves: &mut [u32],
     m: usize,
-)
+) -> usize
     requires { ⌜ Carries (now relays) (now relay) (now tablets) (now moves) m ⌝ }
-    ensures { λ _. ⌜ Carried (now (relays .entry)) (now (relay .entry)) (now (tablets .entry)) (now (tablets .exit)) (now (moves .entry)) (now (moves .exit)) m ⌝ }
+    ensures { λ c. ⌜ Carried (now (relays .entry)) (now (relay .entry)) (now (tablets .entry)) (now (tablets .exit)) (now (moves .entry)) (now (moves .exit)) m c ⌝ }
 {
     let mut c: usize = 0;
     let mut j: usize = 0;
@@ -157,4 +167,5 @@ pub fn carry_out(
         c = move_one(relays, tablets, moves, i, j, c);
         j += 1;
     }
+    c
 }

@@ -5,17 +5,21 @@ use Prim.Native.Nat.{ℕ, _≤_, _<_}
 use lib.ListN.{length, getD}
 use Rattle.ring.specs.Scheme.{Positions}
 use Rattle.rule.specs.Entry.{total}
-use Rattle.lent.specs.Table.{relayNumber, RelaysIn, mostTablets, TabletsIn}
+use Rattle.lent.specs.Table.{relayNumber, RelaysIn, mostTablets}
 use Rattle.lent.specs.Placing.{relayFor}
 use Rattle.meaning.specs.Meaning.{relaysIn}
 use Rattle.meaning.specs.Ascending.{Ascending}
+use Rattle.homes.specs.Homes.{Homes}
 
--- n relays by rising number, and m tablets, which the limits suffice for
-pub record Refills (rs ts : List ℕ) (n m : ℕ) : Type 0 where
+-- n relays by rising number, in ring order, with the homes of m tablets, which the limits suffice for
+pub record Refills (rs : List ℕ) (n m : ℕ) (keys home : List ℕ) : Type 0 where
   pub relays : RelaysIn rs n
-  pub tablets : TabletsIn ts m
   pub rising : Ascending (relayNumber rs) n
+  pub few : m ≤ mostTablets
   pub enough : m ≤ total (relaysIn rs n)
+  pub positions : Positions
+  pub tablets : List ℕ
+  pub homes : Homes positions rs tablets n m keys home
 
 -- for each of the first m tablets the place of the rule's relay. (By the law `run-fill` of `meaning` these relays are the rule's filling.)
 pub record Refilled (p : Positions) (rs ts : List ℕ) (n m : ℕ) (relay : List ℕ) : Type 0 where

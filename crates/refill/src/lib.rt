@@ -1,28 +1,38 @@
 // Every tablet placed afresh (document 01, "The rule of placement"): the relay that the rule gives each, whatever relay is written beside it.
-ghost use Rattle.ring.specs.Scheme.{positions};
+ghost use mathlib.Core.List.{List};
+ghost use Prim.Native.Nat.{ℕ, _<_};
+ghost use mathlib.Core.Path.{_≡_};
+ghost use Rattle.ring.specs.Scheme.{Positions};
+ghost use Rattle.lent.specs.Table.{mostRelays};
+ghost use Rattle.homes.specs.Homes.{Homes};
 ghost use Rattle.refill.specs.Refilled.{Refills, Refilled};
 
-// For each of the m tablets the place of its relay among the n relays.
-pub fn refill(scheme: u32, relays: &[u32], tablets: &[u32], n: usize, m: usize) -> [u8; 4096]
-    requires { ⌜ Refills (now relays) (now tablets) n m ⌝ }
-    ensures { λ r. ⌜ Refilled (positions scheme) (now (relays .entry)) (now (tablets .entry)) n m r ⌝ }
+fn from_u8(x: u8) -> usize
+    ensures { λ r. ⌜ (r ≡ x) × (r < mostRelays) ⌝ }
 {
-    let position = lent::relay_positions(scheme, relays, n);
-    let keys = order::ring_order(&position, n);
-    let start = order::starts(&keys, n);
+    x as usize
+}
+
+// For each of the m tablets the place of its relay among the n relays, from the relays in ring order and the tablets' homes.
+pub fn refill(
+    relays: &[u32],
+    keys: &[u64; 256],
+    home: &[u8; 4096],
+    n: usize,
+    m: usize,
+) -> [u8; 4096]
+    requires { ⌜ Refills (now relays) n m (now keys) (now home) ⌝ }
+    ensures { λ r. ⌜ ((p : Positions) (ts : List ℕ) → Homes p (now (relays .entry)) ts n m (now (keys .entry)) (now (home .entry)) → Refilled p (now (relays .entry)) ts n m r) ⌝ }
+{
     let mut room = lent::relay_limits(relays, n);
-    let mut next = survey::first_row(&keys, &room, n);
+    let mut next = survey::first_row(keys, &room, n);
     let mut relay = [0u8; 4096];
-    let mut from = ring::Position(0);
-    let mut h: usize = 0;
     let mut j: usize = 0;
     while j < m {
-        let p = ring::tablet_at(scheme, lent::tablet_number(tablets, j));
-        h = order::home_of(&keys, &start, n, h, from, p);
-        from = p;
+        let h = from_u8(home[j]);
         let k = survey::led_to(&next, h);
-        relay[j] = order::slot_relay(&keys, k) as u8;
-        survey::take(&keys, &mut room, &mut next, n, k);
+        relay[j] = order::slot_relay(keys, k) as u8;
+        survey::take(keys, &mut room, &mut next, n, k);
         j += 1;
     }
     relay

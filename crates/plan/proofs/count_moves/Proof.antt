@@ -1,11 +1,10 @@
 -- `plan::count_moves` meets its contract. The invariant: c of the first j tablets move. The measure is how many are left. Assumes nothing.
-use mathlib.Core.Path.{_≡_, refl, ap, _∙_}
+use mathlib.Core.Path.{_≡_, refl}
 use Prim.Native.Nat.{_-_, _≤_}
 use native.Mathlib.Omega.{arith}
 use lib.ListN.{length}
-use Rattle.lent.specs.Table.{tabletNumber, tabletRelay}
 use Rattle.lent.proofs.Loops.{at-end}
-use Rattle.plan.specs.Changes.{newRelay, changes, changesTo}
+use Rattle.plan.specs.Changes.{changes, changesTo}
 use Rattle.plan.proofs.Changing.{count-more}
 use Rattle.plan.proofs.count_moves.Statement.{statement}
 use Rattle.plan.proofs.count_moves.Tie as tie

@@ -1,6 +1,6 @@
 -- `plan::limit_sum` meets its contract. The invariant: `sum` is the limits of the first i relays, each at most the greatest limit. The measure is
 -- how many are left. Assumes nothing.
-use mathlib.Core.Path.{_≡_, refl, sym, ap, _∙_}
+use mathlib.Core.Path.{_≡_, refl}
 use Prim.Native.Nat.{_*_, _-_, _≤_}
 use native.Mathlib.Omega.{arith}
 use Rattle.rule.specs.Entry.{total}

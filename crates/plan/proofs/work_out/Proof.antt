@@ -1,8 +1,8 @@
 -- `plan::work_out` meets its contract: each way out is one of the refusals 8 and 9, or the plan. Assumes nothing.
 use mathlib.Core.Path.{refl}
+use denote.Ref.{now}
 use native.Mathlib.Omega.{arith}
 use Rattle.plan.proofs.Planning.{limits-planned, list-planned, planned}
-use Rattle.plan.proofs.Changing.{count-most}
 use borrow.Author.Needs.{needs}
 use Rattle.plan.proofs.work_out.Statement.{statement}
 use Rattle.plan.proofs.work_out.Tie as tie
@@ -14,31 +14,35 @@ no-plan-requires : tie.Need-no-plan-requires
 no-plan-requires c κs = search needs
 
 returns : tie.Need-returns
-returns c = limits-planned _ _ _ _ _ _ _ (c .no-plan .ensures) (omega (arith, c .before .before .limit-sum .ensures, c .before .if1 .taken))
+returns c = λ p o. limits-planned _ _ _ _ _ _ _ (c .no-plan .ensures) (omega (arith, c .before .before .limit-sum .ensures, c .before .if1 .taken))
 
 refill-requires : tie.Need-refill-requires
 refill-requires c κs =
     record {
       relays = c .before .before .before .before .pre .limited .relays;
-      tablets = c .before .before .before .before .pre .tablets;
       rising = c .before .before .before .before .pre .rising;
+      few = c .before .before .before .before .pre .tablets .few;
       enough = omega (arith, c .before .limit-sum .ensures, c .if1 .left);
+      positions = c .before .before .before .before .pre .positions;
+      tablets = now (c .before .before .before .before .args .tablets);
+      homes = c .before .before .before .before .pre .homes;
     }
 
-count-moves-requires : tie.Need-count-moves-requires
-count-moves-requires c κs = record { tablets = c .before .before .before .before .before .before .pre .tablets; relays = λ j h. omega (arith, c .before .refill .ensures .below j h, c .before .before .before .before .before .before .pre .limited .relays .there) }
+moves-fit-requires : tie.Need-moves-fit-requires
+moves-fit-requires c κs =
+    record {
+      tablets = c .before .before .before .before .before .before .pre .tablets;
+      relays = λ j h. omega (arith, c .before .refill .ensures (c .before .before .before .before .before .before .pre .positions) (now (c .before .before .before .before .before .before .args .tablets)) (c .before .before .before .before .before .before .pre .homes) .below j h, c .before .before .before .before .before .before .pre .limited .relays .there);
+    }
+
+returns-2 : tie.Need-returns-2
+returns-2 c = λ p o. planned _ _ _ _ _ _ _ (omega (arith, c .before .before .before .before .before .limit-sum .ensures, c .before .before .before .before .if1 .left)) (c .before .before .before .refill .ensures p _ o) (c .before .moves-fit .ensures) refl refl (c .if2 .taken)
 
 no-plan-requires-2 : tie.Need-no-plan-requires-2
 no-plan-requires-2 c κs = search needs
 
-returns-2 : tie.Need-returns-2
-returns-2 c = list-planned _ _ _ _ _ _ _ (omega (arith, c .before .before .before .before .before .before .limit-sum .ensures, c .before .before .before .before .before .if1 .left)) (c .before .before .before .before .refill .ensures) (c .before .before .count-moves .ensures) (c .no-plan2 .ensures) (c .before .if2 .taken)
-
-cast-moves : tie.Need-cast-moves
-cast-moves c = omega (arith, c .before .count-moves .ensures, count-most (c .before .before .before .before .before .before .before .before .args .relays .now) (c .before .before .before .refill .result) (c .before .before .before .before .before .before .before .before .args .tablets .now) (c .before .before .before .before .before .before .before .before .args .m), c .before .before .before .before .before .before .before .before .pre .tablets .few)
-
 returns-3 : tie.Need-returns-3
-returns-3 c = planned _ _ _ _ _ _ _ (omega (arith, c .before .before .before .before .before .limit-sum .ensures, c .before .before .before .before .if1 .left)) (c .before .before .before .refill .ensures) (c .before .count-moves .ensures) refl refl refl (c .if2 .left)
+returns-3 c = λ p o. list-planned _ _ _ _ _ _ _ (omega (arith, c .before .before .before .before .before .before .limit-sum .ensures, c .before .before .before .before .before .if1 .left)) (c .before .before .before .before .refill .ensures p _ o) (c .before .before .moves-fit .ensures) (c .no-plan2 .ensures) (c .before .if2 .left)
 
 pub work-out-spec : {M : Type 1} → statement M
 work-out-spec =
@@ -48,8 +52,7 @@ work-out-spec =
     no-plan-requires
     returns
     refill-requires
-    count-moves-requires
-    no-plan-requires-2
+    moves-fit-requires
     returns-2
-    cast-moves
+    no-plan-requires-2
     returns-3)

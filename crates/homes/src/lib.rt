@@ -1,0 +1,190 @@
+// The relays in ring order and every tablet's home, once one relay is put in or taken out (document 01, "The ring"). Nothing is sorted or sought
+// anew: the other relays keep their order, and a home moves by one slot at most.
+ghost use mathlib.Core.Path.{_≡_};
+ghost use Prim.Native.Nat.{ℕ, _+_, _-_, _^_, _<_, _≤_};
+ghost use lib.Dec.{ltb};
+ghost use lib.ListN.{length, getD};
+ghost use Rattle.ring.specs.Scheme.{positions};
+ghost use Rattle.lent.specs.Table.{mostRelays, mostTablets, tabletPlaces, tabletNumber, TabletsIn};
+ghost use Rattle.order.specs.Keys.{slotRelay, Slot};
+ghost use Rattle.homes.specs.Shift.{skip, raised, lowered, KeysLess, KeysMore};
+ghost use Rattle.homes.specs.Homes.{Moved, homeLess, lessAt, homeMore, moreAt, TakenOut, PutsIn, PutIn};
+
+// The keys in ring order, and for each tablet the slot that its walk goes from.
+pub struct Around {
+    pub keys: [u64; 256],
+    pub home: [u8; 4096],
+}
+
+fn skip(s: usize, k: usize) -> usize
+    requires { ⌜ k < mostRelays ⌝ }
+    ensures { λ r. ⌜ r ≡ skip s k ⌝ }
+{
+    if k < s { k } else { k + 1 }
+}
+
+// ---- one relay less
+
+fn lowered(key: u64, at: usize) -> u64
+    ensures { λ r. ⌜ r ≡ lowered at key ⌝ }
+{
+    let i = (key % 256) as usize;
+    if at < i { key - 1 } else { key }
+}
+
+// The slot of the relay at place `at`.
+fn slot_of(keys: &[u64; 256], n: usize, at: usize) -> usize
+    requires { ⌜ (n ≤ mostRelays) × Slot (now keys) n at ⌝ }
+    ensures { λ r. ⌜ (r < n) × (slotRelay (now (keys .entry)) r ≡ at) ⌝ }
+{
+    let mut k: usize = 0;
+    while k < n {
+        if order::slot_relay(keys, k) == at {
+            return k;
+        }
+        k += 1;
+    }
+    k
+}
+
+// The keys of the n other relays.
+fn keys_less(keys: &[u64; 256], n: usize, s: usize, at: usize) -> [u64; 256]
+    requires { ⌜ n < mostRelays ⌝ }
+    ensures { λ r. ⌜ KeysLess n s at (now (keys .entry)) r ⌝ }
+{
+    let mut less = [0u64; 256];
+    let mut k: usize = 0;
+    while k < n {
+        let from = skip(s, k);
+        less[k] = lowered(keys[from], at);
+        k += 1;
+    }
+    less
+}
+
+fn home_less(s: u8, h: u8) -> u8
+    ensures { λ r. ⌜ r ≡ homeLess s h ⌝ }
+{
+    if s < h { h - 1 } else { h }
+}
+
+fn homes_less(home: &mut [u8; 4096], m: usize, s: u8)
+    requires { ⌜ (m ≤ mostTablets) × (length (now home) ≡ mostTablets) ⌝ }
+    ensures { λ _. ⌜ Moved (lessAt s) m (now (home .entry)) (now (home .exit)) ⌝ }
+{
+    let mut j: usize = 0;
+    while j < m {
+        home[j] = home_less(s, home[j]);
+        j += 1;
+    }
+}
+
+// The relay at place `at` is taken out, and n are left.
+pub fn take_out(around: Around, n: usize, m: usize, at: usize) -> Around
+    requires { ⌜ (n < mostRelays) × (m ≤ mostTablets) × Slot (around .keys) (n + 1) at ⌝ }
+    ensures { λ r. ⌜ TakenOut n m at (around .keys) (around .home) r ⌝ }
+{
+    let keys = around.keys;
+    let s = slot_of(&keys, n + 1, at);
+    let less = keys_less(&keys, n, s, at);
+    let mut home = around.home;
+    homes_less(&mut home, m, s as u8);
+    Around {
+        keys: less,
+        home: home,
+    }
+}
+
+// ---- one relay more
+
+fn raised(key: u64, at: usize) -> u64
+    requires { ⌜ key < 2 ^ 64 - 1 ⌝ }
+    ensures { λ r. ⌜ r ≡ raised at key ⌝ }
+{
+    let i = (key % 256) as usize;
+    if i < at { key } else { key + 1 }
+}
+
+// The keys of the n other relays, and x at slot s.
+fn keys_more(keys: &[u64; 256], n: usize, s: usize, at: usize, x: u64) -> [u64; 256]
+    requires { ⌜ (n < mostRelays) × (s ≤ n) × ((k : ℕ) → k < n → getD (now keys) k 0 < 2 ^ 64 - 1) ⌝ }
+    ensures { λ r. ⌜ KeysMore n s at x (now (keys .entry)) r ⌝ }
+{
+    let mut more = [0u64; 256];
+    let mut k: usize = 0;
+    while k < n {
+        let to = skip(s, k);
+        more[to] = raised(keys[k], at);
+        k += 1;
+    }
+    more[s] = x;
+    more
+}
+
+// Does tablet j stand past position q?
+fn stands_past(scheme: u32, tablets: &[u32], j: usize, q: ring::Position) -> bool
+    requires { ⌜ j < tabletPlaces (now tablets) ⌝ }
+    ensures { λ r. ⌜ r ≡ ltb (q .0) (positions scheme .tabletAt (tabletNumber (now (tablets .entry)) j)) ⌝ }
+{
+    let p = ring::tablet_at(scheme, lent::tablet_number(tablets, j));
+    q.0 < p.0
+}
+
+// The home of tablet j, which was h, with one relay more at slot s and position q.
+fn home_more(scheme: u32, tablets: &[u32], j: usize, s: u8, q: ring::Position, h: u8) -> u8
+    requires { ⌜ j < tabletPlaces (now tablets) ⌝ }
+    ensures { λ r. ⌜ r ≡ homeMore s (q .0) (positions scheme .tabletAt (tabletNumber (now (tablets .entry)) j)) h ⌝ }
+{
+    let next = ((h as usize + 1) % 256) as u8;
+    if h == s {
+        let past = stands_past(scheme, tablets, j, q);
+        if past {
+            return next;
+        }
+        return h;
+    }
+    if s < h { next } else { h }
+}
+
+fn homes_more(
+    scheme: u32,
+    tablets: &[u32],
+    home: &mut [u8; 4096],
+    m: usize,
+    s: u8,
+    q: ring::Position,
+)
+    requires { ⌜ TabletsIn (now tablets) m × (length (now home) ≡ mostTablets) ⌝ }
+    ensures { λ _. ⌜ Moved (moreAt (positions scheme) (now (tablets .entry)) s (q .0)) m (now (home .entry)) (now (home .exit)) ⌝ }
+{
+    let mut j: usize = 0;
+    while j < m {
+        home[j] = home_more(scheme, tablets, j, s, q, home[j]);
+        j += 1;
+    }
+}
+
+// To the n relays one is put in at place `at`, at position q.
+pub fn put_in(
+    scheme: u32,
+    tablets: &[u32],
+    around: Around,
+    n: usize,
+    m: usize,
+    at: usize,
+    q: ring::Position,
+) -> Around
+    requires { ⌜ PutsIn (now tablets) n m at (around .keys) ⌝ }
+    ensures { λ r. ⌜ PutIn (positions scheme) (now (tablets .entry)) n m at (q .0) (around .keys) (around .home) r ⌝ }
+{
+    let keys = around.keys;
+    let x = (q.0 as u64) * 4294967296 + (at as u64);
+    let s = order::advance(&keys, n, 0, x);
+    let more = keys_more(&keys, n, s, at, x);
+    let mut home = around.home;
+    homes_more(scheme, tablets, &mut home, m, s as u8, q);
+    Around {
+        keys: more,
+        home: home,
+    }
+}

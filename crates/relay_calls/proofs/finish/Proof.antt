@@ -1,0 +1,80 @@
+-- `relay_calls::finish` meets its contract: the edit's refusal, the plan's refusal, or the plan carried out and the table put back. Assumes nothing.
+use mathlib.Core.Path.{refl}
+use native.Mathlib.Omega.{arith}
+use Rattle.relay_calls.proofs.Finishing.{edit-refused, edit-passed, edit-plans, edit-short, plan-refused, plan-carries, plan-count, plan-answers}
+use borrow.Author.Needs.{needs}
+use Rattle.relay_calls.proofs.finish.Statement.{statement}
+use Rattle.relay_calls.proofs.finish.Tie as tie
+
+done-requires : tie.Need-done-requires
+done-requires c κs = search needs
+
+refused-requires : tie.Need-refused-requires
+refused-requires c κs = search needs
+
+returns : tie.Need-returns
+returns c = λ s k o. edit-refused _ o (c .before .before .done .ensures) (c .before .if1 .taken) (c .refused .ensures)
+
+slice-aggregate-work-out : tie.Need-slice-aggregate-work-out
+slice-aggregate-work-out c = search needs
+
+work-out-requires : tie.Need-work-out-requires
+work-out-requires c κs = edit-plans (edit-passed (c .before .before .before .before .before .before .before .before .before .before .before .pre .edits) (c .before .before .before .before .before .before .before .done .ensures) (c .before .before .before .before .before .before .if1 .left))
+
+done-requires-2 : tie.Need-done-requires-2
+done-requires-2 c κs = search needs
+
+refused-requires-2 : tie.Need-refused-requires-2
+refused-requires-2 c κs = search needs
+
+same-length : tie.Need-same-length
+same-length c = search needs
+
+returns-2 : tie.Need-returns-2
+returns-2 c = λ s k o. plan-refused (edit-passed o (c .before .before .before .before .before .before .before .before .before .before .before .done .ensures) (c .before .before .before .before .before .before .before .before .before .before .if1 .left)) (o .about) _ (c .before .before .before .work-out .ensures) (c .before .before .done2 .ensures) (c .before .if2 .taken) (c .refused2 .ensures)
+
+slice-aggregate-carry-out : tie.Need-slice-aggregate-carry-out
+slice-aggregate-carry-out c = search needs
+
+carry-out-requires : tie.Need-carry-out-requires
+carry-out-requires c κs = plan-carries (edit-passed (c .before .before .before .before .before .before .before .before .before .before .before .before .before .before .before .before .before .before .before .pre .edits) (c .before .before .before .before .before .before .before .before .before .before .before .before .before .before .before .done .ensures) (c .before .before .before .before .before .before .before .before .before .before .before .before .before .before .if1 .left)) (c .before .before .before .before .before .before .before .before .before .before .before .before .before .before .before .before .before .before .before .pre .edits .about) _ (c .before .before .before .before .before .before .before .work-out .ensures) (c .before .before .before .before .before .before .done2 .ensures) (c .before .before .before .before .before .if2 .left)
+
+put-back-requires : tie.Need-put-back-requires
+put-back-requires c κs = edit-short (edit-passed (c .before .before .before .before .before .before .before .before .before .before .before .before .before .before .before .before .before .before .before .before .before .before .before .before .before .before .pre .edits) (c .before .before .before .before .before .before .before .before .before .before .before .before .before .before .before .before .before .before .before .before .before .before .done .ensures) (c .before .before .before .before .before .before .before .before .before .before .before .before .before .before .before .before .before .before .before .before .before .if1 .left))
+
+cast-listed : tie.Need-cast-listed
+cast-listed c = omega (arith, plan-count (edit-passed (c .before .before .before .before .before .before .before .before .before .before .before .before .before .before .before .before .before .before .before .before .before .before .before .before .before .before .before .before .before .pre .edits) (c .before .before .before .before .before .before .before .before .before .before .before .before .before .before .before .before .before .before .before .before .before .before .before .before .before .done .ensures) (c .before .before .before .before .before .before .before .before .before .before .before .before .before .before .before .before .before .before .before .before .before .before .before .before .if1 .left)) (c .before .before .before .before .before .before .before .before .before .before .before .before .before .before .before .before .before .before .before .before .before .before .before .before .before .before .before .before .before .pre .edits .about) _ (c .before .before .before .before .before .before .before .before .before .before .before .before .before .before .before .before .before .work-out .ensures) (c .before .before .before .before .before .before .before .before .before .before .before .before .before .before .before .before .done2 .ensures) (c .before .before .before .before .before .before .before .before .before .before .before .before .before .before .before .if2 .left) (c .before .before .before .before .before .before .before .before .before .carry-out .ensures))
+
+same-length-2 : tie.Need-same-length-2
+same-length-2 c = search needs
+
+same-length-3 : tie.Need-same-length-3
+same-length-3 c = search needs
+
+same-length-4 : tie.Need-same-length-4
+same-length-4 c = search needs
+
+returns-3 : tie.Need-returns-3
+returns-3 c = λ s k o. plan-answers (edit-passed o (c .before .before .before .before .before .before .before .before .before .before .before .before .before .before .before .before .before .before .before .before .before .before .before .before .before .done .ensures) (c .before .before .before .before .before .before .before .before .before .before .before .before .before .before .before .before .before .before .before .before .before .before .before .before .if1 .left)) (o .about) _ (c .before .before .before .before .before .before .before .before .before .before .before .before .before .before .before .before .before .work-out .ensures) (c .before .before .before .before .before .before .before .before .before .before .before .before .before .before .before .before .done2 .ensures) (c .before .before .before .before .before .before .before .before .before .before .before .before .before .before .before .if2 .left) (c .before .before .before .before .before .before .before .before .before .carry-out .ensures) (c .before .before .put-back .ensures) refl
+
+pub finish-spec : {M : Type 1} → statement M
+finish-spec =
+    tie.close
+    (tie.spec
+    done-requires
+    refused-requires
+    returns
+    slice-aggregate-work-out
+    work-out-requires
+    done-requires-2
+    refused-requires-2
+    same-length
+    returns-2
+    slice-aggregate-carry-out
+    carry-out-requires
+    put-back-requires
+    cast-listed
+    same-length-2
+    same-length-3
+    same-length-4
+    returns-3)
