@@ -1,0 +1,24 @@
+-- `balance::balance` meets its contract: refused, or with the limit of numbers that are within range. Assumes nothing.
+use Rattle.balance.proofs.Ranges.{fine, in-range, balances-refused, balances-done}
+use borrow.Author.Needs.{needs}
+use Rattle.balance.proofs.balance.Statement.{statement}
+use Rattle.balance.proofs.balance.Tie as tie
+
+why-not-requires : tie.Need-why-not-requires
+why-not-requires c κs = search needs
+
+done-requires : tie.Need-done-requires
+done-requires c κs = search needs
+
+returns : tie.Need-returns
+returns c = balances-refused _ _ _ _ (c .before .before .why-not .ensures) (c .before .done .ensures) (c .if1 .taken)
+
+limit-for-requires : tie.Need-limit-for-requires
+limit-for-requires c κs = in-range _ _ _ _ (fine _ _ _ _ (c .before .before .why-not .ensures) (c .before .done .ensures) (c .if1 .left))
+
+returns-2 : tie.Need-returns-2
+returns-2 c = balances-done _ _ _ _ (c .before .before .before .why-not .ensures) (c .before .before .done .ensures) (c .before .if1 .left) (c .limit-for .ensures)
+
+pub balance-spec : {M : Type 1} → statement M
+balance-spec =
+    tie.close (tie.spec why-not-requires done-requires returns limit-for-requires returns-2)

@@ -1,0 +1,19 @@
+-- What a balance promises, and the numbers that it can work with (document 01, "Sheet, balance, tally"). Assumes nothing.
+use mathlib.Core.Path.{_≡_}
+use Prim.Native.Nat.{ℕ, _≤_, _<_}
+use Rattle.rule.specs.Balance as Rule
+use Rattle.balance.specs.declared.Balanced.{Balanced}
+
+-- what is not refused: p and q at most 1,000, tablets at most 4,096, relays at most 256, and no zero below the line
+pub record InRange (p q tablets relays : ℕ) : Type 0 where
+  pub someQ : 0 < q
+  pub someRelays : 0 < relays
+  pub fewP : p ≤ 1000
+  pub fewQ : q ≤ 1000
+  pub fewTablets : tablets ≤ 4096
+  pub fewRelays : relays ≤ 256
+
+-- the reply is document 01's
+pub record Balances (b : Rule.Balanced) (r : Balanced) : Type 0 where
+  pub refusal : r .refusal ≡ b .refusal
+  pub limit : r .limit ≡ b .limit
