@@ -1,6 +1,7 @@
 -- A table with zeros behind its entries is the paper's table of these entries.
 --   rest-zeros                       the test that the rest is unused says so
 --   zeros-behind                     and so of fewer places
+--   flat-more                        one entry more
 --   relays-filled, tablets-filled    a table as it stands
 --   relays-table, tablets-table      one whose first places were written
 --   relays-taken, tablets-taken      one that an entry was taken out of
@@ -50,7 +51,7 @@ zeros-behind k h z = record { numbers = λ i l u. z .numbers i (omega arith) u; 
 
 -- ---- two numbers to a place
 
-flat-more : (es : List Entry) (e : Entry) → flat (es ++ (e ∷ [])) ≡ flat es ++ (e .number ∷ e .beside ∷ [])
+pub flat-more : (es : List Entry) (e : Entry) → flat (es ++ (e ∷ [])) ≡ flat es ++ (e .number ∷ e .beside ∷ [])
 unfolding flat
 flat-more [] e = refl
 flat-more (x ∷ es) e = ap (λ (l : List ℕ). x .number ∷ x .beside ∷ l) (flat-more es e)

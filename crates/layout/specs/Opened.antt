@@ -1,0 +1,18 @@
+-- What the trailer of any bytes says: is the shape right, the counts and the scheme. Bytes that are too short for a trailer say nothing.
+-- Assumes nothing.
+use mathlib.Core.Bool.{true, false}
+use mathlib.Core.List.{List}
+use Prim.Native.Nat.{ℕ}
+use lib.Dec.{leb}
+use lib.ListN.{length}
+use Rattle.layout.specs.declared.Trailer.{Trailer}
+use Rattle.layout.specs.Roster.{trailerBytes, shapeRight, relayCount, tabletCount, schemeOf}
+
+unfoldable pub said : List ℕ → Trailer
+said b = record { right = shapeRight b; relays = relayCount b; tablets = tabletCount b; scheme = schemeOf b }
+
+unfoldable pub unsaid : Trailer
+unsaid = record { right = false; relays = 0; tablets = 0; scheme = 0 }
+
+unfoldable pub trailerOf : List ℕ → Trailer
+trailerOf b = elim (leb trailerBytes (length b)) [ true ↦ said b | false ↦ unsaid ]

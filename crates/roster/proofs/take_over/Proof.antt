@@ -1,0 +1,67 @@
+-- `roster::take_over` meets its contract: scratch holds the two blocks, and the lent tables are written where these are full tables.
+-- Assumes nothing.
+use borrow.Author.Needs.{needs}
+use Rattle.roster.proofs.Taking.{taken-not, taken-all}
+use Rattle.roster.proofs.take_over.Statement.{statement}
+use Rattle.roster.proofs.take_over.Tie as tie
+
+entries-requires : tie.Need-entries-requires
+entries-requires c κs = search needs
+
+mul-entries : tie.Need-mul-entries
+mul-entries c = search needs
+
+entries-requires-2 : tie.Need-entries-requires-2
+entries-requires-2 c κs = search needs
+
+full-tables-requires : tie.Need-full-tables-requires
+full-tables-requires c κs = search needs
+
+same-length : tie.Need-same-length
+same-length c = search needs
+
+same-length-2 : tie.Need-same-length-2
+same-length-2 c = search needs
+
+returns : tie.Need-returns
+returns c = taken-not _ _ _ _ (c .before .before .before .before .before .before .before .before .before .before .entries .ensures) (c .before .before .before .before .before .before .entries2 .ensures) (c .before .full-tables .ensures) (c .if1 .taken)
+
+fill-requires : tie.Need-fill-requires
+fill-requires c κs = search needs
+
+fill-requires-2 : tie.Need-fill-requires-2
+fill-requires-2 c κs = search needs
+
+same-length-3 : tie.Need-same-length-3
+same-length-3 c = search needs
+
+same-length-4 : tie.Need-same-length-4
+same-length-4 c = search needs
+
+same-length-5 : tie.Need-same-length-5
+same-length-5 c = search needs
+
+same-length-6 : tie.Need-same-length-6
+same-length-6 c = search needs
+
+returns-2 : tie.Need-returns-2
+returns-2 c = taken-all _ _ _ _ (c .before .before .before .before .before .before .before .before .before .before .before .before .before .before .before .before .before .before .before .before .entries .ensures) (c .before .before .before .before .before .before .before .before .before .before .before .before .before .before .before .before .entries2 .ensures) (c .before .before .before .before .before .before .before .before .before .before .before .full-tables .ensures) (c .before .before .before .before .before .before .before .before .before .before .if1 .left) (c .before .before .before .before .before .before .before .fill .ensures) (c .before .before .fill2 .ensures)
+
+pub take-over-spec : {M : Type 1} → statement M
+take-over-spec =
+    tie.close
+    (tie.spec
+    entries-requires
+    mul-entries
+    entries-requires-2
+    full-tables-requires
+    same-length
+    same-length-2
+    returns
+    fill-requires
+    fill-requires-2
+    same-length-3
+    same-length-4
+    same-length-5
+    same-length-6
+    returns-2)
