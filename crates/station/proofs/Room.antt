@@ -1,0 +1,164 @@
+-- No call makes more moves than a tablet table may have places, so a move list with more places than that gives the same outcome.
+--   outcome-room    the outcome, with the list cut to so many places
+-- Assumes nothing.
+use mathlib.Core.Bool.{Bool, true, false, not, _&&_}
+use mathlib.Core.List.{List, [], _∷_, _++_}
+use mathlib.Core.Option.{Option, none, some}
+use mathlib.Core.Path.{_≡_, refl, sym, ap, _∙_}
+use Prim.Native.Nat.{ℕ, suc, _+_, _≤_, min}
+use native.Mathlib.Omega.{arith}
+use borrow.Author.Tests.{ltb-true, ltb-false, leb-true, leb-false, lt-ltb, le-ltb}
+use lib.Dec.{eqb, ltb, leb}
+use lib.ListN.{length, length-append}
+use Rattle.ring.specs.Scheme.{known, Positions, positions}
+use Rattle.ring.proofs.Tests.{split, and-left, and-right, not-false}
+use Rattle.rule.specs.declared.Refusal.{Refusal}
+use Rattle.rule.specs.declared.Refusal.the-variants.{SchemeUnknown, TablesNotRight, NumberZero, ThereAlready, NoUnusedPlace, LimitsTooSmall, MoveListTooShort}
+use Rattle.rule.specs.declared.Call.{Call}
+use Rattle.rule.specs.declared.Call.the-variants.{Add, Remove, Set, Enrol, Withdraw, Find}
+use Rattle.rule.specs.Entry.{Entry, entry, numbers, has, besideOf, delete, total}
+use Rattle.rule.specs.Rule.{Ring, seat, seatAll, placement, right}
+use Rattle.rule.specs.Refusals.{isDone, Bar, bar, firstBar}
+use Rattle.rule.specs.Calls.{edited, orNobody, after, moved, moves, wrongNumbers, refusal, accepted, declined, outcome}
+use Rattle.rule.proofs.Accepted.{bar-passed}
+use Rattle.rule.proofs.Counts.{length-insert}
+use Rattle.rule.proofs.Right.{length-numbers}
+use Rattle.lent.specs.Table.{mostTablets, relayPlaces, relayNumber, relayLimit, tabletPlaces, tabletNumber, tabletRelay, tabletWhole}
+use Rattle.lent.specs.Shape.{relaysUsed, tabletsUsed, relayFits, tabletFits}
+use Rattle.lent.proofs.Shape.{used-most}
+use Rattle.meaning.specs.Meaning.{ringOf, restUnused, fitTables}
+use Rattle.meaning.proofs.Places.{length-places}
+use Rattle.station.specs.Promise.{lentWith, outcomeWith}
+
+-- ---- lengths
+
+moved-length : (old es : List Entry) → length (moved old es) ≤ length es
+unfolding moved
+moved-length old [] = omega arith
+moved-length old (e ∷ es) =
+    split (has old (e .number) && not (eqb (besideOf old (e .number)) (e .beside)))
+    (λ s. rw (s, moved) (omega (arith, moved-length old es)))
+    (λ s. rw (s, moved) (omega (arith, moved-length old es)))
+
+seated-length : (p : Positions) (rs seated : List Entry) (ts : List ℕ) → length (orNobody (seatAll p rs seated ts)) ≤ length seated + length ts
+unfolding seatAll orNobody
+seated-length p rs seated [] = omega arith
+seated-length p rs seated (t ∷ ts) = at-seat (seat p rs seated t) refl (λ r. seated-length p rs (with r) ts)
+  where
+    with : Entry → List Entry
+    with r = seated ++ (entry t (r .number) ∷ [])
+
+    at-seat : (r : Option Entry) → seat p rs seated t ≡ r → ((x : Entry) → length (orNobody (seatAll p rs (with x) ts)) ≤ length (with x) + length ts)
+        → length (orNobody (seatAll p rs seated (t ∷ ts))) ≤ length seated + suc (length ts)
+    at-seat none e f = rw (e, seatAll) (omega arith)
+    at-seat (some r) e f = rw (e, seatAll) (omega (arith, f r, length-append seated (entry t (r .number) ∷ [])))
+
+delete-length : (n : ℕ) (es : List Entry) → length (delete n es) ≤ length es
+unfolding delete
+delete-length n [] = omega arith
+delete-length n (e ∷ es) =
+    split (eqb (e .number) n) (λ s. rw (s, delete) (omega arith)) (λ s. rw (s, delete) (omega (arith, delete-length n es)))
+
+moves-length : (p : Positions) (g : Ring) (c : Call) → length (moves p g c) ≤ length (edited g c .tablets)
+unfolding moves after placement
+moves-length p g c =
+    omega (arith, moved-length (g .tablets) (after p g c .tablets), seated-length p (edited g c .relays) [] (numbers (edited g c .tablets)), length-numbers (edited g c .tablets))
+
+-- ---- so many moves at most
+
+module _ (rs ts : List ℕ) where
+  -- the tablets of a table that fits
+  tablets-few : fitTables rs ts ≡ true → (length (ringOf rs ts .tablets) ≤ tabletPlaces ts) × (tabletPlaces ts ≤ mostTablets)
+  unfolding fitTables tabletFits ringOf tabletsUsed
+  tablets-few h =
+      let relaysRest : Bool = restUnused (relayNumber rs) (relayLimit rs) (relaysUsed rs) (relayPlaces rs) in
+      let tabletsRest : Bool = restUnused (tabletNumber ts) (tabletRelay ts) (tabletsUsed ts) (tabletPlaces ts) in
+      let fits : tabletFits ts ≡ true = and-left (tabletFits ts) (relaysRest && tabletsRest) (and-right (relayFits rs) (tabletFits ts && (relaysRest && tabletsRest)) h) in (
+        omega (arith, length-places (tabletNumber ts) (tabletRelay ts) (tabletsUsed ts), used-most (tabletNumber ts) (tabletPlaces ts)),
+        leb-true (tabletPlaces ts) mostTablets (and-right (tabletWhole ts) (leb (tabletPlaces ts) mostTablets) fits),
+      )
+
+  module _ (s room : ℕ) (fit : fitTables rs ts ≡ true) where
+    abbrev g : Ring
+    g = ringOf rs ts
+
+    edited-few : (c : Call) → isDone (firstBar (wrongNumbers (lentWith s rs ts room) g c)) ≡ true → length (edited g c .tablets) ≤ mostTablets
+    unfolding wrongNumbers isDone edited lentWith
+    edited-few (Add r l) h = omega (arith, tablets-few fit .0, tablets-few fit .1)
+    edited-few (Remove r) h = omega (arith, tablets-few fit .0, tablets-few fit .1)
+    edited-few (Set r l) h = omega (arith, tablets-few fit .0, tablets-few fit .1)
+    edited-few (Enrol t) h =
+        let b₃ : List Bar = bar (leb (tabletPlaces ts) (length (g .tablets))) NoUnusedPlace ∷ [] in
+        let b₂ : List Bar = bar (has (g .tablets) (t .0)) ThereAlready ∷ b₃ in
+        let h₁ : (eqb (t .0) 0 ≡ false) × (isDone (firstBar b₂) ≡ true) = bar-passed (eqb (t .0) 0) NumberZero b₂ refl h in
+        let h₂ : (has (g .tablets) (t .0) ≡ false) × (isDone (firstBar b₃) ≡ true) = bar-passed (has (g .tablets) (t .0)) ThereAlready b₃ refl (h₁ .1) in
+        let h₃ : (leb (tabletPlaces ts) (length (g .tablets)) ≡ false) × (isDone (firstBar []) ≡ true) = bar-passed (leb (tabletPlaces ts) (length (g .tablets))) NoUnusedPlace [] refl (h₂ .1) in
+        omega (arith, leb-false (tabletPlaces ts) (length (g .tablets)) (h₃ .0), length-insert (t .0) 0 (g .tablets), tablets-few fit .1)
+    edited-few (Withdraw t) h = omega (arith, delete-length (t .0) (g .tablets), tablets-few fit .0, tablets-few fit .1)
+    edited-few (Find t) h = omega (arith, tablets-few fit .0, tablets-few fit .1)
+
+-- ---- a list cut to so many places
+
+-- a bar before two lists of bars that come to one
+bar-same : (b : Bool) (r : Refusal) (bs bs′ : List Bar) → (b ≡ false → firstBar bs ≡ firstBar bs′) → firstBar (bar b r ∷ bs) ≡ firstBar (bar b r ∷ bs′)
+unfolding firstBar
+bar-same true r bs bs′ f = refl
+bar-same false r bs bs′ f = f refl
+
+room-same : (room n : ℕ) → n ≤ mostTablets → ltb room n ≡ ltb (min room mostTablets) n
+room-same room n h =
+    split (ltb room n)
+    (λ u. u ∙ sym (lt-ltb (min room mostTablets) n (omega (arith, ltb-true room n u))))
+    (λ u. u ∙ sym (le-ltb (min room mostTablets) n (omega (arith, ltb-false room n u))))
+
+module _ (s : ℕ) (rs ts : List ℕ) (room : ℕ) where
+  -- how many moves the list takes is no matter to the numbers handed over
+  numbers-room : (k : ℕ) (g : Ring) (c : Call) → wrongNumbers (lentWith s rs ts k) g c ≡ wrongNumbers (lentWith s rs ts room) g c
+  unfolding wrongNumbers lentWith
+  numbers-room k g (Add r l) = refl
+  numbers-room k g (Remove r) = refl
+  numbers-room k g (Set r l) = refl
+  numbers-room k g (Enrol t) = refl
+  numbers-room k g (Withdraw t) = refl
+  numbers-room k g (Find t) = refl
+
+  module _ (c : Call) where
+    abbrev p : Positions
+    p = positions s
+
+    abbrev ring : Ring
+    ring = ringOf rs ts
+
+    abbrev wrong : Refusal
+    wrong = firstBar (wrongNumbers (lentWith s rs ts room) ring c)
+
+    abbrev short : ℕ → List Bar
+    short k = bar (ltb k (length (moves p ring c))) MoveListTooShort ∷ []
+
+    abbrev tight : ℕ → List Bar
+    tight k = bar (ltb (total (edited ring c .relays)) (length (edited ring c .tablets))) LimitsTooSmall ∷ short k
+
+    abbrev behind : Refusal → ℕ → List Bar
+    behind w k = bar (not (isDone w)) w ∷ tight k
+
+    abbrev bars : Refusal → ℕ → List Bar
+    bars w k = bar (not (known s)) SchemeUnknown ∷ bar (not (fitTables rs ts && right p ring)) TablesNotRight ∷ behind w k
+
+    refusal-bars : (k : ℕ) → refusal p (lentWith s rs ts k) ring c ≡ firstBar (bars wrong k)
+    unfolding refusal lentWith
+    refusal-bars k = ap (λ (l : List Bar). firstBar (bars (firstBar l) k)) (numbers-room k ring c)
+
+    refusal-room : refusal p (lentWith s rs ts (min room mostTablets)) ring c ≡ refusal p (lentWith s rs ts room) ring c
+    refusal-room =
+        refusal-bars (min room mostTablets)
+        ∙ sym (bar-same (not (known s)) SchemeUnknown (bar (not (fitTables rs ts && right p ring)) TablesNotRight ∷ behind wrong room) (bar (not (fitTables rs ts && right p ring)) TablesNotRight ∷ behind wrong (min room mostTablets))
+        (λ _. bar-same (not (fitTables rs ts && right p ring)) TablesNotRight (behind wrong room) (behind wrong (min room mostTablets))
+        (λ ok. bar-same (not (isDone wrong)) wrong (tight room) (tight (min room mostTablets))
+        (λ fine. ap (λ (b : Bool). firstBar (bar (ltb (total (edited ring c .relays)) (length (edited ring c .tablets))) LimitsTooSmall ∷ bar b MoveListTooShort ∷ []))
+        (room-same room (length (moves p ring c))
+        (omega (arith, moves-length p ring c, edited-few rs ts s room (and-left (fitTables rs ts) (right p ring) (not-false (fitTables rs ts && right p ring) ok)) c (not-false (isDone wrong) fine))))))))
+        ∙ sym (refusal-bars room)
+
+    pub outcome-room : outcomeWith s rs ts (min room mostTablets) c ≡ outcomeWith s rs ts room c
+    unfolding outcomeWith outcome
+    outcome-room = ap (λ (r : Refusal). elim (isDone r) [ true ↦ accepted p ring c | false ↦ declined ring r ]) refusal-room

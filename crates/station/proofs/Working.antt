@@ -1,0 +1,73 @@
+-- From a call on the numbers of a move list to what it did for a list of records (`works`). Assumes nothing.
+use mathlib.Core.List.{List, _++_}
+use mathlib.Core.Path.{_≡_, sym, ap, ap₂, _∙_}
+use Prim.Native.Nat.{ℕ, _*_, _/_, _-_, _≤_, min}
+use native.Mathlib.Omega.{arith}
+use lib.ListN.{length, take, drop, replicate, length-append, length-drop, length-replicate}
+use lib.Seq.{length-take-le, take-at, take-append-le}
+use Rattle.ring.specs.Scheme.{positions}
+use Rattle.rule.specs.declared.Call.{Call}
+use Rattle.rule.specs.declared.Move.{Move}
+use Rattle.rule.specs.declared.Reply.{Reply}
+use Rattle.rule.specs.Calls.{Outcome}
+use Rattle.lent.specs.Table.{mostTablets}
+use Rattle.meaning.specs.Meaning.{ringOf, lentOf}
+use Rattle.write.specs.Tables.{flatMoves, listed}
+use Rattle.write.proofs.Listed.{length-listed}
+use Rattle.look.specs.Promise.{outcomeOf, settled, after, Answers}
+use Rattle.station.specs.Promise.{lentWith, outcomeWith, tablesAfter}
+use Rattle.station.specs.Working.{Works}
+use Rattle.station.proofs.Outcomes.{outcome-count, outcome-fits, settled-reply, settled-relays, settled-tablets, settled-moves}
+use Rattle.station.proofs.Room.{outcome-room}
+
+-- by `length-listed`, of a list that is just long enough
+length-flat : (ms : List Move) → length (flatMoves ms) ≡ 3 * length ms
+unfolding listed
+length-flat ms =
+    let whole : List ℕ = replicate (3 * length ms) 0 in
+    let size : length whole ≡ 3 * length ms = length-replicate (3 * length ms) 0 in
+    omega (arith, size, length-listed ms whole (omega (arith, size)), length-append (flatMoves ms) (drop (3 * length ms) whole), length-drop (3 * length ms) whole)
+
+-- the moves stand first, whatever comes behind the list
+listed-first : (ms : List Move) (list rest : List ℕ) → 3 * length ms ≤ length list → take (3 * length ms) (listed ms list ++ rest) ≡ flatMoves ms
+unfolding listed
+listed-first ms list rest h =
+    take-append-le (3 * length ms) (flatMoves ms ++ drop (3 * length ms) list) rest (omega (arith, length-append (flatMoves ms) (drop (3 * length ms) list), length-flat ms))
+    ∙ take-at (flatMoves ms) (drop (3 * length ms) list) (3 * length ms) (length-flat ms)
+
+-- the part of the numbers that is lent
+pub scratch-length : (numbers : List ℕ) (k room : ℕ) → length numbers ≡ 3 * mostTablets → k ≡ min room mostTablets
+    → length (take (3 * k - 0) (drop 0 numbers)) ≡ 3 * min room mostTablets
+scratch-length numbers k room h e = length-take-le (3 * k - 0) numbers (omega (arith, h, e)) ∙ omega (arith, e)
+
+module _ (s : ℕ) (rs ts : List ℕ) (room : ℕ) (c : Call) where
+  abbrev o : Outcome
+  o = outcomeWith s rs ts room c
+
+  -- a list of numbers for as many moves as can be of use
+  outcome-scratch : (ms : List ℕ) → length ms ≡ 3 * min room mostTablets → outcomeOf s rs ts ms c ≡ o
+  unfolding outcomeOf lentOf outcomeWith lentWith
+  outcome-scratch ms h =
+      let k : length ms / 3 ≡ min room mostTablets = omega (arith, h) in
+      ap (λ (n : ℕ). outcomeWith s rs ts n c) k ∙ outcome-room s rs ts room c
+
+  pub works : (ms rest : List ℕ) {r : Reply} {ms′ numbers rs′ ts′ : List ℕ} → Answers (after s rs ts ms c) r rs′ ts′ ms′
+      → length ms ≡ 3 * min room mostTablets → numbers ≡ ms′ ++ rest → Works s rs ts room c r numbers rs′ ts′
+  unfolding after tablesAfter outcomeOf outcomeWith lentOf
+  works ms rest {r = r} a h e =
+      let same : outcomeOf s rs ts ms c ≡ o = outcome-scratch ms h in
+      let reply : r ≡ o .reply = a .reply ∙ settled-reply rs ts ms (outcomeOf s rs ts ms c) ∙ ap (λ (x : Outcome). x .reply) same in
+      let count : r .moves ≡ length (o .moves) = ap (λ (x : Reply). x .moves) reply ∙ outcome-count (positions s) (lentWith s rs ts room) (ringOf rs ts) c in
+      let few : length (o .moves) ≤ length ms / 3 = rw (sym same) (outcome-fits (positions s) (lentOf s rs ts ms) (ringOf rs ts) c) in
+      let listing : settled rs ts ms (outcomeOf s rs ts ms c) .moves ≡ listed (outcomeOf s rs ts ms c .moves) ms = settled-moves (positions s) (lentOf s rs ts ms) (ringOf rs ts) c rs ts ms in
+      record {
+        reply = reply;
+        relays = a .relays ∙ settled-relays rs ts ms (outcomeOf s rs ts ms c) ∙ ap (λ (x : Outcome). tablesAfter rs ts x .relays) same;
+        tablets = a .tablets ∙ settled-tablets rs ts ms (outcomeOf s rs ts ms c) ∙ ap (λ (x : Outcome). tablesAfter rs ts x .tablets) same;
+        count = count;
+        moves =
+            ap₂ (λ (k : ℕ) (l : List ℕ). take (3 * k) l) count (e ∙ ap (λ (l : List ℕ). l ++ rest) (a .moves ∙ listing ∙ ap (λ (x : Outcome). listed (x .moves) ms) same))
+            ∙ listed-first (o .moves) ms rest (omega (arith, few));
+        fits = omega (arith, count, few, h);
+        few = omega (arith, count, few, h);
+      }

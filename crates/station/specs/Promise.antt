@@ -1,0 +1,41 @@
+-- What a call promises to a station that lends a list of move records and a tally (document 01, "The lent tables", "Sheet, balance, tally"):
+-- the full reply and every lent place afterwards, for accepted and refused calls alike. Assumes nothing.
+use mathlib.Core.List.{List, [], _++_}
+use mathlib.Core.Path.{_≡_}
+use Prim.Native.Nat.{ℕ}
+use lib.ListN.{length, drop}
+use Rattle.ring.specs.Scheme.{known, positions}
+use Rattle.rule.specs.declared.Call.{Call}
+use Rattle.rule.specs.declared.Move.{Move}
+use Rattle.rule.specs.declared.Reply.{Reply}
+use Rattle.rule.specs.declared.Tally.{Tally}
+use Rattle.rule.specs.Calls.{Lent, Outcome, outcome}
+use Rattle.rule.specs.Tally.{counted}
+use Rattle.lent.specs.Table.{relayPlaces, tabletPlaces}
+use Rattle.meaning.specs.Meaning.{ringOf, fitTables}
+use Rattle.look.specs.Promise.{After, settled}
+
+-- the tables, and a move list with so many places
+unfoldable pub lentWith : ℕ → List ℕ → List ℕ → ℕ → Lent
+lentWith scheme rs ts room =
+    record { known = known scheme; fit = fitTables rs ts; relayPlaces = relayPlaces rs; tabletPlaces = tabletPlaces ts; movePlaces = room }
+
+-- the outcome that document 01 gives for what is lent
+unfoldable pub outcomeWith : ℕ → List ℕ → List ℕ → ℕ → Call → Outcome
+outcomeWith scheme rs ts room c = outcome (positions scheme) (lentWith scheme rs ts room) (ringOf rs ts) c
+
+-- the reply and the tables, as for a call on number slices
+unfoldable pub tablesAfter : List ℕ → List ℕ → Outcome → After
+tablesAfter rs ts o = settled rs ts [] o
+
+-- the moves come first; records behind the last move stay as they were
+unfoldable pub recorded : List Move → List Move → List Move
+recorded ms list = ms ++ drop (length ms) list
+
+-- the reply and everything lent, once the call is over
+pub record Attends (s : ℕ) (rs ts : List ℕ) (list : List Move) (t : Tally) (c : Call) (r : Reply) (rs′ ts′ : List ℕ) (list′ : List Move) (t′ : Tally) : Type 0 where
+  pub reply : r ≡ outcomeWith s rs ts (length list) c .reply
+  pub relays : rs′ ≡ tablesAfter rs ts (outcomeWith s rs ts (length list) c) .relays
+  pub tablets : ts′ ≡ tablesAfter rs ts (outcomeWith s rs ts (length list) c) .tablets
+  pub moves : list′ ≡ recorded (outcomeWith s rs ts (length list) c .moves) list
+  pub counted : t′ ≡ counted t c (outcomeWith s rs ts (length list) c .reply)
