@@ -1,0 +1,4 @@
+pub mod Putting
+pub mod Spelling
+pub mod Room
+pub mod Examples

@@ -1,0 +1,23 @@
+-- `answer::put` meets its contract. Assumes nothing.
+use Rattle.answer.proofs.Putting.{puts-none}
+use borrow.Author.Needs.{needs}
+use Rattle.answer.proofs.put.Statement.{statement}
+use Rattle.answer.proofs.put.Tie as tie
+
+slice-write-out : tie.Need-slice-write-out
+slice-write-out c = search needs
+
+add-result : tie.Need-add-result
+add-result c = search needs
+
+same-length : tie.Need-same-length
+same-length c = search needs
+
+returns : tie.Need-returns
+returns c = search needs
+
+returns-2 : tie.Need-returns-2
+returns-2 c = puts-none _ _ (c .before .pre) (c .if1 .left)
+
+pub put-spec : {M : Type 1} → statement M
+put-spec = tie.close (tie.spec slice-write-out add-result same-length returns returns-2)
