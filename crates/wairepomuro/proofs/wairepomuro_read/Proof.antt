@@ -1,0 +1,32 @@
+-- `wairepomuro::wairepomuro_read` meets its contract: the promise of the reading, its refusal as a number. Assumes nothing.
+use mathlib.Core.Path.{ap, _∙_}
+use Rattle.rule.specs.declared.Reply.{Reply}
+use Rattle.rule.specs.Refusals.{numberOf}
+use borrow.Author.Needs.{needs}
+use Rattle.wairepomuro.proofs.wairepomuro_read.Statement.{statement}
+use Rattle.wairepomuro.proofs.wairepomuro_read.Tie as tie
+
+read-requires : tie.Need-read-requires
+read-requires c κs = search needs
+
+number-requires : tie.Need-number-requires
+number-requires c κs = search needs
+
+same-length : tie.Need-same-length
+same-length c = search needs
+
+same-length-2 : tie.Need-same-length-2
+same-length-2 c = search needs
+
+returns : tie.Need-returns
+returns c =
+    record {
+      answered = c .number .ensures ∙ ap (λ (r : Reply). numberOf (r .refusal)) (c .before .before .before .before .before .before .read .ensures .reply);
+      scheme = c .before .before .before .before .before .before .read .ensures .scheme;
+      relays = c .before .before .before .before .before .before .read .ensures .relays;
+      tablets = c .before .before .before .before .before .before .read .ensures .tablets;
+    }
+
+pub wairepomuro-read-spec : {M : Type 1} → statement M
+wairepomuro-read-spec =
+    tie.close (tie.spec read-requires number-requires same-length same-length-2 returns)
