@@ -1,0 +1,79 @@
+//! The three engines, the calls and the memory that is lent to them.
+use crate::{library, naive, plain};
+
+/// All that a caller lends.
+#[derive(Clone, Debug, PartialEq, Eq)]
+pub struct Memory {
+    pub relays: Vec<u32>,
+    pub tablets: Vec<u32>,
+    pub moves: Vec<u32>,
+    pub tally: Vec<u32>,
+}
+
+#[derive(Clone, Copy, Debug, PartialEq, Eq)]
+pub enum Call {
+    Check,
+    Find(u32),
+    Enrol(u32),
+    Withdraw(u32),
+    Add(u32, u32),
+    Remove(u32),
+    Set(u32, u32),
+}
+
+/// A reply as the paper lists it: refusal, relay, passed, moves. That of a check has the refusal alone.
+pub type Numbers = [u32; 4];
+
+#[derive(Clone, Copy, Debug, PartialEq, Eq)]
+pub enum Engine {
+    Library,
+    Plain,
+    Naive,
+}
+
+pub const ENGINES: [Engine; 3] = [Engine::Library, Engine::Plain, Engine::Naive];
+
+impl Engine {
+    pub fn name(self) -> &'static str {
+        match self {
+            Engine::Library => "library",
+            Engine::Plain => "plain Rust",
+            Engine::Naive => "naive",
+        }
+    }
+
+    #[inline]
+    pub fn run(self, scheme: u32, memory: &mut Memory, call: Call) -> Numbers {
+        match self {
+            Engine::Library => library::call(scheme, memory, call),
+            Engine::Plain => plain::call(scheme, memory, call),
+            Engine::Naive => naive::call(scheme, memory, call),
+        }
+    }
+}
+
+/// What the station counts: an accepted call's own kind and its moves, or one more refusal. A check is not counted, and neither is anything
+/// where the tally has not four numbers.
+pub fn count(tally: &mut [u32], call: Call, reply: Numbers) {
+    let [refusal, _, _, moves] = reply;
+    let [enrolments, withdrawals, all_moves, refusals] = tally else { return };
+    match call {
+        Call::Check => return,
+        _ if refusal != 0 => *refusals = refusals.saturating_add(1),
+        Call::Enrol(_) => *enrolments = enrolments.saturating_add(1),
+        Call::Withdraw(_) => *withdrawals = withdrawals.saturating_add(1),
+        _ => {}
+    }
+    *all_moves = all_moves.saturating_add(moves);
+}
+
+/// Every engine on a copy of the memory. Replies and all lent numbers must be the same; the answer is the reply and the memory afterwards.
+pub fn agree(scheme: u32, memory: &Memory, call: Call) -> (Numbers, Memory) {
+    let [library, plain, naive] = ENGINES.map(|engine| {
+        let mut lent = memory.clone();
+        (engine.run(scheme, &mut lent, call), lent)
+    });
+    assert_eq!(library, naive, "{call:?} under scheme {scheme} on {memory:?}");
+    assert_eq!(plain, naive, "plain Rust: {call:?} under scheme {scheme} on {memory:?}");
+    library
+}

@@ -1,0 +1,104 @@
+//! The three engines on random rings and calls: the same replies, and the same numbers in all lent memory, of refused calls too.
+use wairepomuro_bench::engine::{agree, Call, Memory};
+use wairepomuro_bench::random::Random;
+use wairepomuro_bench::{cases, naive};
+
+fn some_call(random: &mut Random, relays: &[u32], tablets: &[u32], greatest: usize) -> Call {
+    let (relay, tablet) = (random.pick(relays), random.pick(tablets));
+    let limit = if random.below(20) == 0 { random.pick(&[4096, 4097, u32::MAX]) } else { random.below(greatest + 1) as u32 };
+    match random.below(20) {
+        0..=2 => Call::Add(relay, limit),
+        3 => Call::Remove(relay),
+        4 => Call::Set(relay, limit),
+        5..=11 => Call::Enrol(tablet),
+        12..=15 => Call::Withdraw(tablet),
+        16..=18 => Call::Find(tablet),
+        _ => Call::Check,
+    }
+}
+
+/// Numbers close together, so that many share a home, or spread over the ring; and 0, which no call takes.
+fn pool(random: &mut Random, count: usize) -> Vec<u32> {
+    let top = random.pick(&[2 * count as u32, u32::MAX]);
+    let mut numbers = random.rising(count, top);
+    numbers.push(0);
+    numbers
+}
+
+/// Runs of calls from empty tables, in tables that are often too small and with move lists that are often too short.
+#[test]
+fn runs_of_calls() {
+    let mut random = Random(1);
+    let mut refused = [0; 10];
+    for _ in 0..1_200 {
+        let scheme = random.below(2) as u32;
+        let (r, t) = (1 + random.below(16), 1 + random.below(70));
+        let (relays, tablets) = (pool(&mut random, r), pool(&mut random, t));
+        let greatest = random.pick(&[1, 3, 8, 30]);
+        let moves = random.pick(&[0, 5, 12, 210]);
+        let mut memory =
+            Memory { relays: vec![0; 2 * random.below(18)], tablets: vec![0; 2 * random.below(60)], moves: vec![9; moves], tally: vec![0; 4] };
+        for _ in 0..120 {
+            let call = some_call(&mut random, &relays, &tablets, greatest);
+            let (reply, after) = agree(scheme, &memory, call);
+            refused[reply[0] as usize] += 1;
+            memory = after;
+        }
+    }
+    assert!([0, 3, 4, 5, 6, 7, 8, 9].iter().all(|&number| refused[number] > 0), "a number was never given: {refused:?}");
+}
+
+/// One number of the lent tables changed, or a table of another length, or another scheme.
+#[test]
+fn damaged_tables() {
+    let mut random = Random(2);
+    let mut refused = [0; 10];
+    for _ in 0..20_000 {
+        let mut scheme = random.below(2) as u32;
+        let (r, t) = (1 + random.below(9), 1 + random.below(20));
+        let (relays, tablets) = (random.rising(r, 40), random.rising(t, 60));
+        let [relays_lent, tablets_lent] = naive::tables(scheme, &relays, t.div_ceil(r) as u32, &tablets);
+        let mut memory = Memory { relays: relays_lent, tablets: tablets_lent, moves: vec![9; 60], tally: vec![0; 4] };
+        let table = if random.below(2) == 0 { &mut memory.relays } else { &mut memory.tablets };
+        let at = random.below(table.len());
+        match random.below(6) {
+            0 => scheme = random.pick(&[1 - scheme, 2]),
+            1 => table.truncate(at),
+            2 => table.resize(random.pick(&[511, 512, 514, 8192, 8194]), 0),
+            3 => table[at] = random.pick(&[0, 1, 4097, u32::MAX]),
+            4 => table[at] = table[at].wrapping_add(1),
+            _ => {}
+        }
+        let call = some_call(&mut random, &relays, &tablets, 30);
+        refused[agree(scheme, &memory, call).0[0] as usize] += 1;
+    }
+    assert!(refused[..3].iter().all(|&n| n > 0), "a number was never given: {refused:?}");
+}
+
+/// The largest rings, full or nearly so.
+#[test]
+fn largest_rings() {
+    let mut random = Random(3);
+    for round in 0..24 {
+        let scheme = round % 2;
+        let (relays, tablets) = (random.rising(300, u32::MAX), random.rising(4_400, u32::MAX));
+        let used = 256 - random.below(2);
+        let [mut relays_lent, mut tablets_lent] = naive::tables(scheme, &relays[..used], 16, &tablets[..4_080]);
+        relays_lent.resize(512, 0);
+        tablets_lent.resize(8_192, 0);
+        let mut memory = Memory { relays: relays_lent, tablets: tablets_lent, moves: vec![9; 12_288], tally: vec![0; 4] };
+        for _ in 0..20 {
+            let call = some_call(&mut random, &relays, &tablets, 40);
+            memory = agree(scheme, &memory, call).1;
+        }
+    }
+}
+
+/// Every case that is measured is a call that is accepted.
+#[test]
+fn cases_are_accepted() {
+    for case in cases::all() {
+        let (memory, call) = case.lend();
+        assert_eq!(agree(case.scheme, &memory, call).0[0], 0, "{case:?}");
+    }
+}
