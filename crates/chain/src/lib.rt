@@ -1,14 +1,12 @@
 // The chain of an enrolment (document 01, "The rule of placement"): the newcomer walks its order; at a full relay that holds a greater number it
 // takes the place of the greatest there, and that one walks on, until the first relay with room.
 ghost use mathlib.Core.Path.{_≡_};
-ghost use mathlib.Core.Bool.{cond};
 ghost use Prim.Native.Nat.{ℕ, _+_, _-_, _<_, _≤_};
-ghost use lib.Dec.{eqb};
 ghost use lib.ListN.{length, getD, set};
 ghost use Rattle.ring.specs.Scheme.{positions};
 ghost use Rattle.lent.specs.Table.{tabletPlaces};
 ghost use Rattle.slots.specs.Slots.{slotAt};
-ghost use Rattle.chain.specs.Chain.{nameAt, nextSlot, Keeps, From, Chained};
+ghost use Rattle.chain.specs.Chain.{nameAt, nextSlot, From, Chained};
 ghost use Rattle.chain.specs.Visit.{givesWay, Visited};
 
 // Who sits down where: the first is the newcomer, and `place` has the others' places in the tablet table; `seat` has everybody's relay, by its place

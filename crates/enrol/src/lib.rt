@@ -5,7 +5,7 @@ ghost use mathlib.Core.Bool.{_&&_};
 ghost use mathlib.Core.List.{List};
 ghost use lib.Dec.{ltb};
 ghost use Prim.Native.Nat.{ℕ, _+_, _*_, _/_, _<_, _≤_};
-ghost use lib.ListN.{length, getD};
+ghost use lib.ListN.{length};
 ghost use Rattle.ring.specs.Scheme.{positions};
 ghost use Rattle.rule.specs.declared.Call.the-variants.{Enrol};
 ghost use Rattle.lent.specs.Table.{mostRelays, relayPlaces, tabletPlaces, tabletNumber};

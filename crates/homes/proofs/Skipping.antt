@@ -1,7 +1,7 @@
 -- All numbers but one.
 --   skip-cases                          below it, and past it
 --   skip-off, skip-one, skip-up         it is not there; each number once; by rising number
---   skip-below, skipped, skip-within    the n + 1 numbers below n + 1 are that one and n others
+--   skip-below, skipped                 the n + 1 numbers below n + 1 are that one and n others
 -- Assumes nothing.
 use mathlib.Core.Logic.{_⊎_, inl, inr}
 use mathlib.Core.Path.{_≡_}

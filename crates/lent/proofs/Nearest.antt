@@ -2,7 +2,7 @@
 --   least-more                     one more relay is looked at
 --   least-low, least-high          the least key is a lower bound, and the greatest
 --   key-open, key-shut             the key of a relay with room and of a full one
---   first-open, first-inside       the first relay with room has room, and is one of the n
+--   first-open                     the first relay with room has room
 -- Assumes nothing.
 use mathlib.Core.Bool.{Bool, true, false, cond}
 use mathlib.Core.List.{List}

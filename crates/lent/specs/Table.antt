@@ -1,5 +1,6 @@
 -- Where a relay and a tablet stand in the lent tables (document 01, "The lent tables"): flat lists of numbers, two to a place.
--- Nothing outside this file knows how many numbers a place has. Assumes nothing.
+-- Whoever reads a place reads it by these names. What lays places out knows besides how many numbers one has: `write` for tables, `layout` for
+-- rosters. Assumes nothing.
 use mathlib.Core.Bool.{Bool}
 use mathlib.Core.List.{List}
 use Prim.Native.Nat.{ℕ, _+_, _*_, _/_, _%_, _≤_}

@@ -65,7 +65,7 @@ pub examples-hold : meanings examples ≡ expected examples
 unfolding examples meanings expected meaningOf words onto said letterOf withOne withTwo decimalOf plain digit allDigits value leadingZero
 examples-hold = refl
 
--- ---- first lines: `scheme 0`, `scheme 1`, `scheme 2`, `scheme 01`, `scheme  1`, `scheme`, `scheme 1` and a carriage return
+-- ---- first lines: `scheme 0`, `scheme 1`, `scheme 3`, `scheme 01`, `scheme  1`, `scheme`, `scheme 1` and a carriage return
 
 pub schemes : List (List ℕ) → List firsts.First
 schemes [] = []
@@ -74,7 +74,7 @@ schemes (l ∷ ls) = schemeOf l ∷ schemes ls
 pub scheme : List ℕ → List ℕ
 scheme more = 115 ∷ 99 ∷ 104 ∷ 101 ∷ 109 ∷ 101 ∷ more
 
-pub schemes-hold : schemes (scheme (32 ∷ 48 ∷ []) ∷ scheme (32 ∷ 49 ∷ []) ∷ scheme (32 ∷ 50 ∷ []) ∷ scheme (32 ∷ 48 ∷ 49 ∷ []) ∷ scheme (32 ∷ 32 ∷ 49 ∷ []) ∷ scheme [] ∷ scheme (32 ∷ 49 ∷ 13 ∷ []) ∷ [])
+pub schemes-hold : schemes (scheme (32 ∷ 48 ∷ []) ∷ scheme (32 ∷ 49 ∷ []) ∷ scheme (32 ∷ 51 ∷ []) ∷ scheme (32 ∷ 48 ∷ 49 ∷ []) ∷ scheme (32 ∷ 32 ∷ 49 ∷ []) ∷ scheme [] ∷ scheme (32 ∷ 49 ∷ 13 ∷ []) ∷ [])
     ≡ (first.Scheme 0 ∷ first.Scheme 1 ∷ first.Other ∷ first.Other ∷ first.Other ∷ first.Other ∷ first.Other ∷ [])
 unfolding schemes scheme schemeOf schemeWord behind named knownOr known decimalOf plain digit allDigits value leadingZero
 schemes-hold = refl

@@ -1,6 +1,6 @@
 -- What a call promises (document 01, "How the statements must bind"): the full reply and every lent place afterwards, for accepted and refused
 -- calls alike. Assumes nothing.
-use mathlib.Core.Bool.{Bool, true, false}
+use mathlib.Core.Bool.{true, false}
 use mathlib.Core.List.{List}
 use mathlib.Core.Path.{_≡_}
 use Prim.Native.Nat.{ℕ}

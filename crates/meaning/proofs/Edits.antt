@@ -1,7 +1,6 @@
 -- An entry put in, taken out and changed, place by place.
 --   insert-places   a new place among the others
 --   delete-places   a place closed
---   put-places      another limit or relay at a place
 --   less-places     one room less at a place
 -- Assumes nothing.
 use mathlib.Core.Bool.{false}
@@ -12,7 +11,7 @@ use native.Mathlib.Numerals.{add-one}
 use native.Mathlib.Omega.{arith}
 use borrow.Author.Tests.{eq-eqb, ne-eqb, lt-ltb, le-ltb}
 use lib.Dec.{eqb}
-use Rattle.rule.specs.Entry.{entry, insert, delete, put}
+use Rattle.rule.specs.Entry.{entry, insert, delete}
 use Rattle.rule.specs.Rooms.{less}
 use Rattle.meaning.specs.Meaning.{places}
 use Rattle.meaning.specs.Ascending.{Ascending}
@@ -124,20 +123,6 @@ changed-next c = record { below = omega (arith, c .below); here = c .here; other
 changed-first : (f b b′ : ℕ → ℕ) (n v : ℕ) → Changed b b′ (suc n) 0 v → entry (f 0) v ∷ places (next f) (next b) n ≡ places f b′ (suc n)
 changed-first f b b′ n v c =
     rw (places-cons f b′ n, c .here, places-ext (next f) (next b′) (next f) (next b) n (λ i h. refl) (λ i h. c .other (suc i) (omega arith) (λ x. omega arith)))
-
-pub put-places : {f : ℕ → ℕ} (n : ℕ) → Ascending f n → (b b′ : ℕ → ℕ) (at v : ℕ) → Changed b b′ n at v → put (f at) v (places f b n) ≡ places f b′ n
-unfolding put
-put-places zero a b b′ at v c = absurd (omega (arith, c .below))
-put-places {f} (suc n) a b b′ zero v c = rw (places-cons f b n, eq-eqb (f 0) (f 0) refl, put) (changed-first f b b′ n v c)
-put-places {f} (suc n) a b b′ (suc at) v c =
-    rw (
-      places-cons f b n,
-      places-cons f b′ n,
-      first-other a at (c .below),
-      put,
-      put-places n (ascending-next a) (next b) (next b′) at v (changed-next c),
-      c .other 0 (omega arith) (λ x. omega arith),
-    )
 
 pub less-places : {f : ℕ → ℕ} (n : ℕ) → Ascending f n → (b b′ : ℕ → ℕ) (at : ℕ) → 0 < b at → Changed b b′ n at (b at - 1) → less (f at) (places f b n) ≡ places f b′ n
 unfolding less

@@ -1,23 +1,23 @@
 -- Folds over the first places, with one place more.
---   numbers-more, total-more, load-more            one place more
---   greatest-more, greatest-last, greatest-none    the greatest number with a relay beside it
+--   total-more, load-more    one place more
+--   greatest-more            the greatest number with a relay beside it
 -- Assumes nothing.
 use mathlib.Core.Bool.{cond}
-use mathlib.Core.Path.{_≡_, refl, sym, ap, _∙_}
+use mathlib.Core.Path.{_≡_, refl, ap, _∙_}
 use mathlib.Core.List.{List, [], _∷_, _++_}
-use Prim.Native.Nat.{ℕ, _+_, _≤_, _<_, max}
+use Prim.Native.Nat.{ℕ, _+_, _<_, max}
 use native.Mathlib.Numerals.{add-one}
 use native.Mathlib.Omega.{arith}
-use borrow.Author.Tests.{ltb-true, ltb-false, eqb-true, eqb-false}
+use borrow.Author.Tests.{ltb-true, ltb-false}
 use lib.Dec.{eqb, ltb}
 use Rattle.ring.proofs.Tests.{split}
 use Rattle.rule.specs.Entry.{Entry, entry, numbers, total, load}
 use Rattle.rule.specs.Walks.{greatest}
 use Rattle.rule.proofs.Placing as Placing
-use Rattle.rule.proofs.Searches.{greatest-sits, greatest-top}
+use Rattle.rule.proofs.Searches.{greatest-sits}
 use Rattle.meaning.specs.Meaning.{places}
 use Rattle.meaning.specs.Ascending.{Ascending}
-use Rattle.meaning.proofs.Places.{At, sits-places, places-sits}
+use Rattle.meaning.proofs.Places.{At, sits-places}
 
 -- ---- two lists one behind the other
 
@@ -42,10 +42,6 @@ greatest-append (e ∷ k) l r =
 -- ---- one place more
 
 module _ (f b : ℕ → ℕ) (n : ℕ) where
-  pub numbers-more : numbers (places f b (n + 1)) ≡ numbers (places f b n) ++ (f n ∷ [])
-  unfolding places numbers
-  numbers-more = rw add-one (numbers-append (places f b n) (entry (f n) (b n) ∷ []))
-
   pub total-more : total (places f b (n + 1)) ≡ total (places f b n) + b n
   unfolding places total
   total-more = rw add-one (total-append (places f b n) (entry (f n) (b n) ∷ []) ∙ omega arith)
@@ -59,25 +55,6 @@ module _ (f b : ℕ → ℕ) (n : ℕ) where
 module _ (f b : ℕ → ℕ) (n r : ℕ) where
   greatest-at : 0 < greatest (places f b n) r → At f b n (greatest (places f b n) r) r
   greatest-at h = sits-places f b n (greatest (places f b n) r) r (greatest-sits (places f b n) r h)
-
-  pub greatest-none : ((i : ℕ) → i < n → b i ≡ r → ⊥) → greatest (places f b n) r ≡ 0
-  greatest-none h =
-      split (ltb 0 (greatest (places f b n) r))
-      (λ s. let t : At f b n (greatest (places f b n) r) r = greatest-at (ltb-true 0 (greatest (places f b n) r) s) in
-      absurd (h (t .at) (t .below) (t .beside)))
-      (λ s. omega (arith, ltb-false 0 (greatest (places f b n) r) s))
-
-  -- the last place with r beside its number
-  pub greatest-last : Ascending f n → (i : ℕ) → i < n → b i ≡ r → ((l : ℕ) → i < l → l < n → b l ≡ r → ⊥) → greatest (places f b n) r ≡ f i
-  greatest-last a i h e k =
-      let g : ℕ = greatest (places f b n) r in
-      let top : f i ≤ g = greatest-top (places f b n) r (f i) (rw e at (places-sits f b n i h)) in
-      let t : At f b n g r = greatest-at (omega (arith, a .some i h)) in
-      split (ltb i (t .at))
-      (λ s. absurd (k (t .at) (ltb-true i (t .at) s) (t .below) (t .beside)))
-      (λ s. split (eqb (t .at) i)
-      (λ u. sym (t .number) ∙ ap f (eqb-true (t .at) i u))
-      (λ u. absurd (omega (arith, a .up (t .at) i (omega (arith, ltb-false i (t .at) s, eqb-false (t .at) i u)) h, t .number))))
 
   pub greatest-more : Ascending f (n + 1) → greatest (places f b (n + 1)) r ≡ cond (eqb (b n) r) (f n) (greatest (places f b n) r)
   unfolding places greatest

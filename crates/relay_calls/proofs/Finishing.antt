@@ -6,9 +6,9 @@
 --   plan-answers                     past them the plan can be carried out, and that is what document 01 defines
 -- Assumes nothing.
 use mathlib.Core.Bool.{Bool, true, false, not}
-use mathlib.Core.List.{List, [], _∷_}
+use mathlib.Core.List.{List, []}
 use mathlib.Core.Path.{_≡_, refl, sym, ap, ap₂, _∙_}
-use Prim.Native.Nat.{ℕ, _*_, _/_, _%_, _≤_}
+use Prim.Native.Nat.{ℕ, _/_, _%_, _≤_}
 use native.Mathlib.Omega.{arith}
 use borrow.Author.Tests.{eqb-true, ltb-true, ltb-false}
 use lib.Dec.{ltb}
@@ -35,7 +35,7 @@ use Rattle.meaning.proofs.Places.{places-ext, length-places, places-table, plac
 use Rattle.meaning.proofs.Right.{Rises}
 use Rattle.meaning.proofs.Run.{run-fill}
 use Rattle.write.specs.Tables.{flat, filled, relayTable, tabletTable, listed}
-use Rattle.write.proofs.Filled.{tablets-table}
+use Rattle.write.proofs.Filled.{length-flat, tablets-table}
 use Rattle.look.specs.Promise.{after, Answers}
 use Rattle.look.proofs.Checked.{not-true}
 use Rattle.look.proofs.Stays.{relays-whole, relays-few, tablets-whole, tablets-zeros}
@@ -49,15 +49,9 @@ use Rattle.plan.specs.Carried.{Carries, Carried}
 use Rattle.plan.proofs.Changing.{count-most, moved-changes}
 use Rattle.plan.proofs.Planning.{ruled-relay, ruled-changes}
 use Rattle.relay_edit.specs.declared.Edit.{Edit}
-use Rattle.relay_edit.specs.Edited.{ownPlaces, About, Passed, Edits}
+use Rattle.relay_edit.specs.Edited.{ownNumbers, About, Passed, Edits}
 use Rattle.relay_calls.specs.Finish.{Replaced}
 use Rattle.relay_calls.proofs.Replacing.{filled-replaced}
-
--- two numbers to an entry
-length-flat : (es : List Entry) → length (flat es) ≡ 2 * length es
-unfolding flat
-length-flat [] = refl
-length-flat (e ∷ es) = omega (arith, length-flat es)
 
 -- ---- a refusal from 1 to 7
 
@@ -108,7 +102,7 @@ module _ {s : ℕ} {rs ts : List ℕ} {c : Call} {n m : ℕ} {own : List ℕ} {a
   abbrev Worked : ℕ → Plan → Type 0
   Worked places r = (q : Positions) → Homes q own ts n m (around .keys) (around .home) → Planned q own ts n m places r
 
-  pub edit-short : length rs ≤ ownPlaces
+  pub edit-short : length rs ≤ ownNumbers
   unfolding relayWhole relayPlaces
   edit-short = omega (arith, eqb-true (length rs % 2) 0 (relays-whole (o .start)), relays-few (o .start))
 
@@ -213,7 +207,7 @@ module _ {s : ℕ} {rs ts : List ℕ} {c : Call} {n m : ℕ} {own : List ℕ} {a
       unfolding relayTable Calls.after relayPlaces
       the-relays w =
           let l : length (edited g c .relays) ≡ n = ap length (sym (o .written .relays)) ∙ length-places (relayNumber own) (relayLimit own) n in
-          filled-replaced ownPlaces (flat (edited g c .relays)) w (o .written .table) (omega (arith, length-flat (edited g c .relays), o .written .fits))
+          filled-replaced ownNumbers (flat (edited g c .relays)) w (o .written .table) (omega (arith, length-flat (edited g c .relays), o .written .fits))
 
       the-tablets : {ts′ ms′ : List ℕ} {k : ℕ} → Carried own relay ts ts′ ms ms′ m k → ts′ ≡ tabletTable (length ts) (Calls.after p g c)
       unfolding tabletTable

@@ -1,6 +1,6 @@
 -- A relay table copied, a number at a time; and what the copy has of the table.
 --   copying-none, copying-more, copying-end   no number is copied; one more is; all are
---   copied-numbers, copied-relays             the copy has the table's places
+--   copied-relays                             the copy has the table's places
 -- Assumes nothing.
 use mathlib.Core.List.{List}
 use mathlib.Core.Path.{_≡_, refl, sym, _∙_}
@@ -14,21 +14,21 @@ use Rattle.lent.specs.Table.{relayNumber, relayLimit}
 use Rattle.lent.proofs.Loops.{stored}
 use Rattle.meaning.specs.Meaning.{relaysIn}
 use Rattle.meaning.proofs.Places.{places-ext}
-use Rattle.relay_edit.specs.Edited.{ownPlaces, Copied}
+use Rattle.relay_edit.specs.Edited.{ownNumbers, Copied}
 
 -- the first i numbers are copied, and zeros stand behind them
 pub record Copying (rs own : List ℕ) (i : ℕ) : Type 0 where
-  pub size : length own ≡ ownPlaces
+  pub size : length own ≡ ownNumbers
   pub same : (k : ℕ) → k < i → getD own k 0 ≡ getD rs k 0
   pub rest : (k : ℕ) → i ≤ k → getD own k 0 ≡ 0
 
 zeros : (m k : ℕ) → _≡_ {A = ℕ} (getD (replicate m 0) k 0) 0
 zeros m k = elim (decLt k m) [ yes h ↦ getD-replicate m k 0 0 h | no h ↦ List·getD-eq-default (replicate m 0) 0 (omega (arith, length-replicate {A = ℕ} m 0)) ]
 
-pub copying-none : (rs : List ℕ) → Copying rs (replicate ownPlaces 0) 0
-copying-none rs = record { size = length-replicate {A = ℕ} ownPlaces 0; same = λ k l. absurd (not-suc-le-zero l); rest = λ k l. zeros ownPlaces k }
+pub copying-none : (rs : List ℕ) → Copying rs (replicate ownNumbers 0) 0
+copying-none rs = record { size = length-replicate {A = ℕ} ownNumbers 0; same = λ k l. absurd (not-suc-le-zero l); rest = λ k l. zeros ownNumbers k }
 
-pub copying-more : {rs own : List ℕ} {i : ℕ} → Copying rs own i → i < ownPlaces → Copying rs (set own i (getD rs i 0)) (i + 1)
+pub copying-more : {rs own : List ℕ} {i : ℕ} → Copying rs own i → i < ownNumbers → Copying rs (set own i (getD rs i 0)) (i + 1)
 copying-more {rs} {own} {i} c h = record {
   size = length-set own i (getD rs i 0) ∙ c .size;
   same = λ k l. stored (λ k x. x ≡ getD rs k 0) own i (omega (arith, c .size)) refl k (λ d. c .same k (omega arith));

@@ -30,7 +30,7 @@ use Rattle.homes.specs.declared.Around.{Around}
 use Rattle.look.proofs.Stays.{relays-whole, relays-few}
 use Rattle.look.proofs.Refusing.{start-rises, start-ring}
 use Rattle.relay_edit.specs.Found.{Stands}
-use Rattle.relay_edit.specs.Edited.{ownPlaces, Copied, Written}
+use Rattle.relay_edit.specs.Edited.{ownNumbers, Copied, Written}
 use Rattle.relay_edit.proofs.Copying.{copied-number, copied-limit, copied-relays}
 
 module _ {s : ℕ} {rs ts : List ℕ} {x n m at : ℕ} {there : Bool} {around : Around} (stands : Stands s rs ts x n m at there around) where
@@ -40,7 +40,7 @@ module _ {s : ℕ} {rs ts : List ℕ} {x n m at : ℕ} {there : Bool} {around : 
   pub stands-few : n ≤ mostRelays
   stands-few = rises .relaysFit .few
 
-  pub stands-short : length rs ≤ ownPlaces
+  pub stands-short : length rs ≤ ownNumbers
   unfolding relayWhole relayPlaces
   stands-short = omega (arith, eqb-true (length rs % 2) 0 (relays-whole (stands .start)), relays-few (stands .start))
 

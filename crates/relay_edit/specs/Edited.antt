@@ -19,12 +19,12 @@ use Rattle.homes.specs.Homes.{Homes}
 use Rattle.relay_edit.specs.declared.Edit.{Edit}
 
 -- as many numbers as the longest relay table has
-abbrev pub ownPlaces : ℕ
-ownPlaces = 512
+abbrev pub ownNumbers : ℕ
+ownNumbers = 512
 
 -- the same numbers, and zeros behind them
 pub record Copied (rs own : List ℕ) : Type 0 where
-  pub size : length own ≡ ownPlaces
+  pub size : length own ≡ ownNumbers
   pub same : (i : ℕ) → getD own i 0 ≡ getD rs i 0
 
 -- c is a call about relay r: no tablet is put in or taken out, and the reply names that relay and 0 passed
@@ -35,9 +35,9 @@ pub record About (c : Call) (r : ℕ) : Type 0 where
 
 -- the n relays that are to be stand in `own`, with zeros behind them, and fit the lent table
 pub record Written (rs ts : List ℕ) (c : Call) (n : ℕ) (own : List ℕ) : Type 0 where
-  pub size : length own ≡ ownPlaces
+  pub size : length own ≡ ownNumbers
   pub relays : relaysIn own n ≡ edited (ringOf rs ts) c .relays
-  pub table : own ≡ filled ownPlaces (flat (edited (ringOf rs ts) c .relays))
+  pub table : own ≡ filled ownNumbers (flat (edited (ringOf rs ts) c .relays))
   pub fits : n ≤ relayPlaces rs
 
 -- none of the refusals 1 to 7 applies; the relays that are to be are in ring order, with the tablets' homes

@@ -8,7 +8,7 @@ ghost use Rattle.rule.specs.declared.Call.the-variants.{Add, Remove, Set};
 ghost use Rattle.rule.specs.Rule.{mostLimit};
 ghost use Rattle.relay_edit.specs.Found.{Finds};
 ghost use Rattle.relay_edit.specs.Refused.{addRefusal, setRefusal};
-ghost use Rattle.relay_edit.specs.Edited.{ownPlaces, Copied, Edits};
+ghost use Rattle.relay_edit.specs.Edited.{ownNumbers, Copied, Edits};
 
 // ---- the relay that a call is about
 
@@ -110,14 +110,14 @@ fn set_refusal(r: ring::RelayNumber, limit: u32, there: bool) -> rule::Refusal
 // ---- the table as it is to be
 
 // As many numbers as the longest relay table.
-const OWN_PLACES: usize = 512;
+const OWN_NUMBERS: usize = 512;
 
 // A refusal; or how many relays and tablets there are to be, the relay table, and those relays in ring order with the tablets' homes.
 pub struct Edit {
     pub refusal: rule::Refusal,
     pub n: usize,
     pub m: usize,
-    pub relays: [u32; OWN_PLACES],
+    pub relays: [u32; OWN_NUMBERS],
     pub around: homes::Around,
 }
 
@@ -129,16 +129,16 @@ fn no_edit(refusal: rule::Refusal) -> Edit
         refusal: refusal,
         n: 0,
         m: 0,
-        relays: [0u32; OWN_PLACES],
+        relays: [0u32; OWN_NUMBERS],
         around: around,
     }
 }
 
-fn copied(relays: &[u32]) -> [u32; OWN_PLACES]
-    requires { ⌜ length (now relays) ≤ ownPlaces ⌝ }
+fn copied(relays: &[u32]) -> [u32; OWN_NUMBERS]
+    requires { ⌜ length (now relays) ≤ ownNumbers ⌝ }
     ensures { λ r. ⌜ Copied (now (relays .entry)) r ⌝ }
 {
-    let mut own = [0u32; OWN_PLACES];
+    let mut own = [0u32; OWN_NUMBERS];
     let mut i: usize = 0;
     while i < relays.len() {
         own[i] = relays[i];

@@ -1,5 +1,5 @@
 -- Entries as the numbers of a table with an entry in every place.
---   length-flat, flat-places     how many numbers they are, and that these are the entries
+--   flat-places     the numbers are these entries
 -- Assumes nothing.
 use mathlib.Core.List.{List, [], _∷_}
 use mathlib.Core.Path.{_≡_, refl, ap, _∙_}
@@ -11,11 +11,6 @@ use Rattle.meaning.specs.Meaning.{places}
 use Rattle.meaning.proofs.Places.{next, places-cons, places-ext}
 use Rattle.write.specs.Tables.{flat}
 use Rattle.write.proofs.Written.{firstOf, secondOf}
-
-pub length-flat : (es : List Entry) → length (flat es) ≡ 2 * length es
-unfolding flat
-length-flat [] = refl
-length-flat (e ∷ es) = omega (arith, length-flat es)
 
 pub flat-places : (es : List Entry) → places (firstOf (flat es)) (secondOf (flat es)) (length es) ≡ es
 unfolding flat places

@@ -33,7 +33,8 @@ use Rattle.look.specs.Start.{checked, Start}
 use Rattle.look.proofs.Refusing.{tables-right}
 use Rattle.roster.specs.Content.{numbered, ringRight}
 use Rattle.roster.specs.Inner.{fullTables}
-use Rattle.roster.proofs.Blocks.{length-flat, flat-places}
+use Rattle.write.proofs.Filled.{length-flat}
+use Rattle.roster.proofs.Blocks.{flat-places}
 
 -- ---- what the check found
 

@@ -10,7 +10,7 @@ use mathlib.Core.List.{List, [], _∷_}
 use mathlib.Core.Logic.{inl, inr, ⊎-elim}
 use Prim.Native.Nat.{ℕ, _^_, _≤_, _<_}
 use native.Mathlib.Omega.{arith}
-use borrow.Author.Tests.{ltb-false, eqb-true, eqb-false, le-leb}
+use borrow.Author.Tests.{ltb-false, eqb-false, le-leb}
 use lib.Dec.{eqb, ltb, leb}
 use lib.ListN.{length}
 use Rattle.ring.specs.Scheme.{Positions}
@@ -27,6 +27,7 @@ use Rattle.rule.specs.Calls.{Lent, subject, edited, orNobody, after, mov
 use Rattle.rule.specs.Rooms.{fill}
 use Rattle.rule.specs.Stability.{Rising, In}
 use Rattle.rule.proofs.Stable.{numbers-fill}
+use Rattle.rule.proofs.Puts.{numbers-put}
 use Rattle.rule.proofs.Sets.{in-insert, in-delete, rising-insert, rising-delete}
 use Rattle.rule.proofs.Orders.{Among, Small}
 use Rattle.rule.proofs.Placing.{placement-fill}
@@ -116,14 +117,6 @@ table-insert n v es t h s out =
 
 table-delete : (n : ℕ) (es : List Entry) → Table es → Table (delete n es)
 table-delete n es t = table-of (delete n es) (rising-delete n es 0 (t .up)) (λ q i. in-small es (t .small) q (in-delete n es q i))
-
-numbers-put : (n v : ℕ) (es : List Entry) → numbers (put n v es) ≡ numbers es
-unfolding numbers put
-numbers-put n v [] = refl
-numbers-put n v (e ∷ es) =
-    split (eqb (e .number) n)
-    (λ s. rw (s, put) (ap (λ (k : ℕ). k ∷ numbers es) (sym (eqb-true (e .number) n s))))
-    (λ s. rw (s, put) (ap (λ (l : List ℕ). e .number ∷ l) (numbers-put n v es)))
 
 table-put : (n v : ℕ) (es : List Entry) → Table es → Table (put n v es)
 table-put n v es t =

@@ -182,6 +182,12 @@ length-delete m r (e ∷ p) low up (inr i) =
     let h : e .number < m = sits-above p (e .number) m r (up .1) i in
     rw (ne-eqb (e .number) m (λ (x : e .number ≡ m). omega arith), delete) (ap suc (length-delete m r p (e .number) (up .1) i))
 
+pub delete-length : (n : ℕ) (es : List Entry) → length (delete n es) ≤ length es
+unfolding delete
+delete-length n [] = omega arith
+delete-length n (e ∷ es) =
+    split (eqb (e .number) n) (λ s. rw (s, delete) (omega arith)) (λ s. rw (s, delete) (omega (arith, delete-length n es)))
+
 -- ---- how many numbers are above n
 
 unfoldable pub above : List Entry → ℕ → ℕ

@@ -1,6 +1,5 @@
 -- Examples of document 01 beside the drill, computed: the balanced limit, the sheet and its stretches on the drill's ring after case 4, and the two
 -- walks of cases 4 and 8. Assumes nothing.
-use mathlib.Core.Bool.{true}
 use mathlib.Core.List.{List, [], _∷_, map}
 use mathlib.Core.Path.{_≡_, refl}
 use Prim.Native.Nat.{ℕ}

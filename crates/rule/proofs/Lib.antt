@@ -26,3 +26,4 @@ pub mod Tallies
 pub mod Moves
 pub mod Listing
 pub mod Outcomes
+pub mod Lowest

@@ -7,7 +7,7 @@ use mathlib.Core.Bool.{true, false}
 use mathlib.Core.Path.{_≡_, refl, sym, ap, _∙_}
 use mathlib.Core.List.{List, [], _∷_}
 use mathlib.Core.Logic.{inl, inr}
-use mathlib.Core.Option.{Option, none, some}
+use mathlib.Core.Option.{some}
 use Prim.Native.Nat.{ℕ, _+_, _≤_, _<_}
 use native.Mathlib.Omega.{arith}
 use borrow.Author.Tests.{ltb-false, eq-eqb}
@@ -29,14 +29,13 @@ use Rattle.rule.specs.Stability.{Rising, In}
 use Rattle.rule.proofs.Counts.{insert-sits, length-insert, length-delete}
 use Rattle.rule.proofs.Sets.{rising-insert}
 use Rattle.rule.proofs.Orders.{Among, order-in}
-use Rattle.rule.proofs.Placing.{among-held, placement-fill, seat-none}
+use Rattle.rule.proofs.Placing.{among-held, placement-fill}
 use Rattle.rule.proofs.Right.{Table, Right, right-loads, length-numbers}
 use Rattle.rule.proofs.Demand3.{has-sits, sits-beside}
 use Rattle.rule.proofs.Turning.{turn-placement, distinct-order, distinct-rising, upTo-stop, upTo-go}
 use Rattle.rule.proofs.Holing.{holes-placement}
 use Rattle.rule.proofs.Listing.{Chain, numbers-seated, seated-other, turn-chain, chain-seated, turn-moves, holes-moves}
 use Rattle.rule.proofs.Moves.{moved-none}
-use Rattle.rule.proofs.Tallies.{loads-length}
 
 -- the rule's tables where the edited relays take the edited tablets
 after-is : (p : Positions) (g : Ring) (c : Call) → Table (edited g c .relays) → length (edited g c .tablets) ≤ total (edited g c .relays)
@@ -118,15 +117,6 @@ module _ (p : Positions) (g : Ring) (r : Right p g) (t : TabletNumber) (some-num
   pub enrol-passed : passed p g (Enrol t) ≡ length fulls
   unfolding passed fullAhead
   enrol-passed = ahead-full (order p x (g .relays)) (λ e i. order-in p x (g .relays) e i)
-
-  -- there is a relay with room
-  pub enrol-first : (f : Entry) × (first (hasRoom (g .tablets)) (order p x (g .relays)) ≡ some f)
-  enrol-first = go (seat p (g .relays) (g .tablets) x) refl
-    where
-      go : (o : Option Entry) → seat p (g .relays) (g .tablets) x ≡ o → (f : Entry) × (first (hasRoom (g .tablets)) (order p x (g .relays)) ≡ some f)
-      go none e =
-          absurd (omega (arith, room, seat-none p (g .relays) 0 (r .relays .up) (r .relays .small) (g .tablets) x e, total-rooms (g .relays) (g .tablets), loads-length p g r))
-      go (some f) e = (f, unfold seat in e)
 
 -- ---- a withdrawal
 

@@ -56,11 +56,6 @@ held-among (r ∷ rs) q h =
 
 -- ---- the room that is left
 
-pub numbers-rooms : (rs ts : List Entry) → numbers (rooms rs ts) ≡ numbers rs
-unfolding numbers rooms
-numbers-rooms [] ts = refl
-numbers-rooms (r ∷ rs) ts = ap (λ (l : List ℕ). r .number ∷ l) (numbers-rooms rs ts)
-
 pub held-rooms : (rs : List Entry) (low : ℕ) → Rising low (numbers rs) → (ts : List Entry) (q : ℕ) → held (rooms rs ts) q ≡ held rs q - load ts q
 unfolding held numbers rooms
 held-rooms [] low up ts q = omega arith

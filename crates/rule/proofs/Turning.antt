@@ -1,5 +1,4 @@
--- One turn over the full relays ahead of the first with room, in the newcomer's own order, ends in the rule's placement (`turn-placement`),
--- and the numbers of its chain rise (`turn-rising`).
+-- One turn over the full relays ahead of the first with room, in the newcomer's own order, ends in the rule's placement (`turn-placement`).
 -- The invariant: all but the walker sit as the rule places them; the relays still ahead hold whom they held; every relay open to the walker
 -- is still ahead, and of two such relays the newcomer and the walker meet the same one first.
 -- Assumes nothing.

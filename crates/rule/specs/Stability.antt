@@ -1,5 +1,5 @@
 -- What it means that no tablet could sit earlier: each has the first relay of its order that the lower numbers leave it. The laws
--- `placement-stable` and `stable-placement` say that this is the rule. Over any preference: `key t r` is less where relay r stands earlier in
+-- `right-stable` and `stable-right` say that this is the rule. Over any preference: `key t r` is less where relay r stands earlier in
 -- the order of tablet t. Assumes nothing.
 use mathlib.Core.Bool.{Bool, true, false, _&&_}
 use mathlib.Core.List.{List, [], _∷_}

@@ -1,7 +1,6 @@
 -- A tablet's clockwise order is the slots from its home on, once round.
 --   round-key      fewer steps, a lower key
 --   order-round    the order is the round
---   passed-steps   to have passed a relay is to have it fewer steps ahead
 -- Assumes nothing.
 use mathlib.Core.Path.{_≡_, sym, ap, _∙_, subst}
 use mathlib.Core.List.{List}

@@ -16,12 +16,12 @@ use Rattle.rule.specs.declared.Refusal.{Refusal}
 use Rattle.rule.specs.declared.Refusal.the-variants.{SchemeUnknown, TablesNotRight, NumberZero, ThereAlready, NoUnusedPlace, LimitsTooSmall, MoveListTooShort}
 use Rattle.rule.specs.declared.Call.{Call}
 use Rattle.rule.specs.declared.Call.the-variants.{Add, Remove, Set, Enrol, Withdraw, Find}
-use Rattle.rule.specs.Entry.{Entry, entry, numbers, has, besideOf, delete, total}
+use Rattle.rule.specs.Entry.{Entry, entry, numbers, has, besideOf, total}
 use Rattle.rule.specs.Rule.{Ring, seat, seatAll, placement, right}
 use Rattle.rule.specs.Refusals.{isDone, Bar, bar, firstBar}
 use Rattle.rule.specs.Calls.{edited, orNobody, after, moved, moves, wrongNumbers, refusal, accepted, declined, outcome}
 use Rattle.rule.proofs.Accepted.{bar-passed}
-use Rattle.rule.proofs.Counts.{length-insert}
+use Rattle.rule.proofs.Counts.{length-insert, delete-length}
 use Rattle.rule.proofs.Right.{length-numbers}
 use Rattle.lent.specs.Table.{mostTablets, relayPlaces, relayNumber, relayLimit, tabletPlaces, tabletNumber, tabletRelay, tabletWhole}
 use Rattle.lent.specs.Shape.{relaysUsed, tabletsUsed, relayFits, tabletFits}
@@ -52,12 +52,6 @@ seated-length p rs seated (t ∷ ts) = at-seat (seat p rs seated t) refl (λ r. 
         → length (orNobody (seatAll p rs seated (t ∷ ts))) ≤ length seated + suc (length ts)
     at-seat none e f = rw (e, seatAll) (omega arith)
     at-seat (some r) e f = rw (e, seatAll) (omega (arith, f r, length-append seated (entry t (r .number) ∷ [])))
-
-delete-length : (n : ℕ) (es : List Entry) → length (delete n es) ≤ length es
-unfolding delete
-delete-length n [] = omega arith
-delete-length n (e ∷ es) =
-    split (eqb (e .number) n) (λ s. rw (s, delete) (omega arith)) (λ s. rw (s, delete) (omega (arith, delete-length n es)))
 
 moves-length : (p : Positions) (g : Ring) (c : Call) → length (moves p g c) ≤ length (edited g c .tablets)
 unfolding moves after placement

@@ -3,7 +3,7 @@ use mathlib.Core.List.{List, _++_}
 use mathlib.Core.Path.{_≡_, sym, ap, ap₂, _∙_}
 use Prim.Native.Nat.{ℕ, _*_, _/_, _-_, _≤_, min}
 use native.Mathlib.Omega.{arith}
-use lib.ListN.{length, take, drop, replicate, length-append, length-drop, length-replicate}
+use lib.ListN.{length, take, drop, length-append}
 use lib.Seq.{length-take-le, take-at, take-append-le}
 use Rattle.ring.specs.Scheme.{positions}
 use Rattle.rule.specs.declared.Call.{Call}
@@ -13,27 +13,19 @@ use Rattle.rule.specs.Calls.{Outcome}
 use Rattle.lent.specs.Table.{mostTablets}
 use Rattle.meaning.specs.Meaning.{ringOf, lentOf}
 use Rattle.write.specs.Tables.{flatMoves, listed}
-use Rattle.write.proofs.Listed.{length-listed}
+use Rattle.write.proofs.Listed.{length-moves}
 use Rattle.look.specs.Promise.{outcomeOf, settled, after, Answers}
 use Rattle.station.specs.Promise.{lentWith, outcomeWith, tablesAfter}
 use Rattle.station.specs.Working.{Works}
 use Rattle.station.proofs.Outcomes.{outcome-count, outcome-fits, settled-reply, settled-relays, settled-tablets, settled-moves}
 use Rattle.station.proofs.Room.{outcome-room}
 
--- by `length-listed`, of a list that is just long enough
-length-flat : (ms : List Move) → length (flatMoves ms) ≡ 3 * length ms
-unfolding listed
-length-flat ms =
-    let whole : List ℕ = replicate (3 * length ms) 0 in
-    let size : length whole ≡ 3 * length ms = length-replicate (3 * length ms) 0 in
-    omega (arith, size, length-listed ms whole (omega (arith, size)), length-append (flatMoves ms) (drop (3 * length ms) whole), length-drop (3 * length ms) whole)
-
 -- the moves stand first, whatever comes behind the list
 listed-first : (ms : List Move) (list rest : List ℕ) → 3 * length ms ≤ length list → take (3 * length ms) (listed ms list ++ rest) ≡ flatMoves ms
 unfolding listed
 listed-first ms list rest h =
-    take-append-le (3 * length ms) (flatMoves ms ++ drop (3 * length ms) list) rest (omega (arith, length-append (flatMoves ms) (drop (3 * length ms) list), length-flat ms))
-    ∙ take-at (flatMoves ms) (drop (3 * length ms) list) (3 * length ms) (length-flat ms)
+    take-append-le (3 * length ms) (flatMoves ms ++ drop (3 * length ms) list) rest (omega (arith, length-append (flatMoves ms) (drop (3 * length ms) list), length-moves ms))
+    ∙ take-at (flatMoves ms) (drop (3 * length ms) list) (3 * length ms) (length-moves ms)
 
 -- the part of the numbers that is lent
 pub scratch-length : (numbers : List ℕ) (k room : ℕ) → length numbers ≡ 3 * mostTablets → k ≡ min room mostTablets

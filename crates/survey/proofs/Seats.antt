@@ -2,7 +2,7 @@
 --   seat-below, seat-takes, seat-relay, seat-right   the slot that the row leads to from a tablet's home
 --   surveyed-none, surveyed-more, surveyed-end       no tablet is placed; one more is; all are
 -- Assumes nothing.
-use mathlib.Core.Bool.{Bool, true, false, _&&_}
+use mathlib.Core.Bool.{Bool, _&&_}
 use mathlib.Core.List.{List}
 use mathlib.Core.Path.{_≡_, refl, sym, ap, _∙_, subst}
 use Prim.Native.Nat.{ℕ, _+_, _%_, _^_, _≤_, _<_}

@@ -4,8 +4,8 @@
 -- Assumes nothing.
 use mathlib.Core.Bool.{cond}
 use mathlib.Core.List.{List}
-use mathlib.Core.Logic.{_⊎_, inl, inr, ⊎-elim}
-use mathlib.Core.Path.{_≡_, refl, sym, ap, _∙_, subst}
+use mathlib.Core.Logic.{_⊎_, inl, inr}
+use mathlib.Core.Path.{_≡_, refl, ap, _∙_, subst}
 use Prim.Native.Nat.{ℕ, _+_, _-_, _%_, _≤_, _<_}
 use native.Mathlib.Nat.{not-suc-le-zero}
 use native.Mathlib.Omega.{arith}
@@ -17,7 +17,7 @@ use Rattle.lent.specs.Table.{mostRelays}
 use Rattle.lent.specs.Placing.{roomLess}
 use Rattle.lent.proofs.Loops.{eq-or-ne, stored}
 use Rattle.lent.proofs.Room.{less-here, less-other, less-open, less-keeps}
-use Rattle.order.specs.Keys.{slotRelay, Apart}
+use Rattle.order.specs.Keys.{slotRelay}
 use Rattle.survey.specs.Row.{slotRoom, Ahead, both, turn, past, Leads, Row, Redirected, Takes}
 use Rattle.survey.proofs.Leading.{leads-at}
 

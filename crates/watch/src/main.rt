@@ -65,6 +65,7 @@ fn next_line(
 ) -> Stage {
     match line::meaning(line) {
         line::Line::Call(c) => {
+            // Nobody asks for the counts.
             let mut tally = [0u32; 4];
             let reply = calls::call(scheme, relays, tablets, moves, &mut tally, c);
             let n = answer::answer(answer, reply, moves);

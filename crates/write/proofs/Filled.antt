@@ -1,17 +1,16 @@
 -- A table with zeros behind its entries is the paper's table of these entries.
 --   rest-zeros                       the test that the rest is unused says so
 --   zeros-behind                     and so of fewer places
---   flat-more                        one entry more
+--   flat-more, length-flat           one entry more; how many numbers they are
 --   relays-filled, tablets-filled    a table as it stands
 --   relays-table, tablets-table      one whose first places were written
 --   relays-taken, tablets-taken      one that an entry was taken out of
 -- Assumes nothing.
-use mathlib.Core.Bool.{Bool, true, _||_}
+use mathlib.Core.Bool.{true, _||_}
 use mathlib.Core.List.{List, [], _∷_, _++_, append-assoc}
 use mathlib.Core.Logic.{⊎-elim}
 use mathlib.Core.Path.{_≡_, refl, sym, ap, ap₂, _∙_}
 use Prim.Native.Nat.{ℕ, zero, suc, _+_, _*_, _-_, _/_, _%_, _≤_, _<_}
-use native.Mathlib.Nat.{eq-or-lt-of-le, le-of-suc-le-suc, not-suc-le-zero}
 use native.Mathlib.Omega.{arith}
 use borrow.Author.Tests.{eqb-true, le-ltb}
 use lib.Dec.{eqb, ltb}
@@ -20,8 +19,8 @@ use lib.Seq.{length-take-le, take-suc, getD-drop, ext-getD}
 use Rattle.ring.proofs.Tests.{and-left, and-right}
 use Rattle.rule.specs.Entry.{Entry, entry}
 use Rattle.lent.specs.Table.{relayPlaces, relayNumber, relayLimit, relayWhole, tabletPlaces, tabletNumber, tabletRelay, tabletWhole}
-use Rattle.lent.specs.Shape.{all, unused}
-use Rattle.lent.proofs.Loops.{eq-or-ne}
+use Rattle.lent.specs.Shape.{unused}
+use Rattle.lent.proofs.Loops.{eq-or-ne, all-at}
 use Rattle.meaning.specs.Meaning.{places, relaysIn, tabletsIn, restUnused}
 use Rattle.write.specs.Tables.{flat, filled}
 use Rattle.write.specs.Wrote.{WroteRelays, WroteTablets}
@@ -29,12 +28,6 @@ use Rattle.write.specs.Places.{TookOut, Zeros}
 use Rattle.write.proofs.Written.{firstOf, secondOf}
 
 -- ---- the test
-
-all-at : (f : ℕ → Bool) (n i : ℕ) → all f n ≡ true → i < n → f i ≡ true
-unfolding all
-all-at f zero i e l = absurd (not-suc-le-zero l)
-all-at f (suc n) i e l =
-    ⊎-elim (λ z. ap f z ∙ and-right (all f n) (f n) e) (λ k. all-at f n i (and-left (all f n) (f n) e) k) (eq-or-lt-of-le (le-of-suc-le-suc l))
 
 pub rest-zeros : (number beside : ℕ → ℕ) (m most : ℕ) → restUnused number beside m most ≡ true → Zeros number beside m most
 unfolding restUnused unused
@@ -55,6 +48,11 @@ pub flat-more : (es : List Entry) (e : Entry) → flat (es ++ (e ∷ [])) ≡ fl
 unfolding flat
 flat-more [] e = refl
 flat-more (x ∷ es) e = ap (λ (l : List ℕ). x .number ∷ x .beside ∷ l) (flat-more es e)
+
+pub length-flat : (es : List Entry) → length (flat es) ≡ 2 * length es
+unfolding flat
+length-flat [] = refl
+length-flat (e ∷ es) = omega (arith, length-flat es)
 
 module _ (l : List ℕ) where
   flat-take : (m : ℕ) → 2 * m ≤ length l → flat (places (firstOf l) (secondOf l) m) ≡ take (2 * m) l

@@ -1,8 +1,7 @@
 -- `chain::gives_way` meets its contract.
 -- Assumes nothing.
-use mathlib.Core.Path.{sym, ap}
+use mathlib.Core.Path.{ap}
 use borrow.Author.Tests.{eq-eqb, ne-eqb}
-use native.Mathlib.Omega.{arith}
 use lib.Dec.{ltb}
 use Rattle.chain.specs.Visit.{givesWay}
 use borrow.Author.Needs.{needs}

@@ -1,7 +1,6 @@
 -- `chain::next_slot` meets its contract.
 -- Assumes nothing.
 use borrow.Author.Tests.{eq-eqb, ne-eqb}
-use native.Mathlib.Omega.{arith}
 use Rattle.chain.specs.Chain.{nextSlot}
 use borrow.Author.Needs.{needs}
 use Rattle.chain.proofs.next_slot.Statement.{statement}

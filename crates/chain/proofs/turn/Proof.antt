@@ -1,11 +1,9 @@
 -- `chain::turn` meets its contract. The invariant (`Going`): d steps from the home, the arrays hold the chain of the turn over the relays
 -- passed, and the walker is who is kept last. The measure is what is left of the steps to the first slot with room.
 -- Assumes nothing.
-use mathlib.Core.Path.{_≡_, refl, sym, ap, _∙_}
-use Prim.Native.Nat.{ℕ, _-_, _<_, _≤_}
+use mathlib.Core.Path.{refl}
+use Prim.Native.Nat.{_-_}
 use native.Mathlib.Omega.{arith}
-use lib.ListN.{length, getD}
-use Rattle.lent.specs.Table.{mostRelays}
 use Rattle.slots.specs.Slots.{stepsTo}
 use Rattle.chain.specs.Chain.{Going}
 use Rattle.chain.proofs.Going.{going-start, slot-small, more-steps, room-for-one, last-small, place-there, going-more, going-end, steps-few, few-relays}

@@ -1,7 +1,6 @@
 -- `chain::visit` meets its contract: whoever gives way is noted, and else nothing changes.
 -- Assumes nothing.
 use mathlib.Core.Path.{refl, sym, _∙_}
-use native.Mathlib.Omega.{arith}
 use Rattle.chain.proofs.Keeping.{way-some, visited-yes, visited-no}
 use borrow.Author.Needs.{needs}
 use Rattle.chain.proofs.visit.Statement.{statement}

@@ -1,8 +1,8 @@
 -- `chain::walker` meets its contract: the newcomer while nobody sat down, else the tablet whose place was kept last.
 -- Assumes nothing.
-use mathlib.Core.Path.{_≡_, refl, sym, ap, _∙_}
+use mathlib.Core.Path.{_≡_, refl, ap, _∙_}
 use mathlib.Core.List.{List}
-use Prim.Native.Nat.{ℕ, zero, suc, _<_}
+use Prim.Native.Nat.{ℕ, zero, suc}
 use native.Mathlib.Omega.{arith}
 use lib.ListN.{getD}
 use Rattle.lent.specs.Table.{tabletNumber}

@@ -1,6 +1,6 @@
 -- `enrol::enrol` meets its contract: a refused plan leaves all as it was, and a whole one is written: those who gave way sit down, then the newcomer.
 -- Assumes nothing.
-use mathlib.Core.Path.{_≡_, refl, sym, ap, _∙_}
+use mathlib.Core.Path.{refl, sym}
 use native.Mathlib.Omega.{arith}
 use Rattle.look.proofs.Refusing.{refused-answers}
 use Rattle.enrol.proofs.Planning.{test-false, test-true}

@@ -1,11 +1,8 @@
 -- `enrol::seat_others` meets its contract. The invariant: the first c of those who gave way are seated in the table and listed, and every number
 -- of the table stands where it stood.
 -- Assumes nothing.
-use mathlib.Core.Path.{_≡_, refl, sym, ap, _∙_}
-use Prim.Native.Nat.{ℕ, _+_, _-_, _<_, _≤_}
+use Prim.Native.Nat.{ℕ, _+_, _-_, _≤_}
 use native.Mathlib.Omega.{arith}
-use lib.ListN.{length}
-use Rattle.lent.specs.Table.{tabletPlaces}
 use Rattle.enrol.specs.Enrol.{Seated}
 use Rattle.enrol.proofs.Seating.{climbs-still, seating-start, seating-more, places-still, list-length, sat-at, seated-all}
 use borrow.Author.Needs.{needs}

@@ -1,7 +1,6 @@
 -- `enrol::work_out` meets its contract: each way out names the first refusal that applies, and past them all the plan is of the call's outcome.
 -- Assumes nothing.
-use mathlib.Core.Path.{_≡_, refl, sym, ap, _∙_}
-use Prim.Native.Nat.{_+_, _<_}
+use mathlib.Core.Path.{refl, sym, ap, _∙_}
 use native.Mathlib.Omega.{arith}
 use Rattle.ring.proofs.Tests.{not-false}
 use Rattle.rule.specs.Refusals.{isDone}

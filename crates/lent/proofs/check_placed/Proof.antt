@@ -7,7 +7,7 @@ use denote.Ref.{now}
 use native.Mathlib.Omega.{arith}
 use Rattle.ring.specs.Scheme.{positions}
 use Rattle.lent.specs.Shape.{all}
-use Rattle.lent.specs.Placing.{relayPositions, roomLess, roomAfter, relayFor, placedAt, placed}
+use Rattle.lent.specs.Placing.{roomLess, roomAfter, relayFor, placedAt, placed}
 use Rattle.lent.proofs.Loops.{at-end, all-more, all-false}
 use Rattle.lent.proofs.Nearest.{first-open}
 use Rattle.lent.proofs.Room.{room-more}

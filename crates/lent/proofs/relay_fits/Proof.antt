@@ -1,7 +1,5 @@
 -- `lent::relay_fits` meets its contract: the definition's two tests, in its order. Assumes nothing.
-use mathlib.Core.Bool.{_&&_}
-use mathlib.Core.Path.{ap₂, ap, _∙_}
-use lib.Dec.{leb}
+use mathlib.Core.Path.{_∙_}
 use Rattle.lent.specs.Shape.{relayFits}
 use borrow.Author.Needs.{needs}
 use Rattle.lent.proofs.relay_fits.Statement.{statement}

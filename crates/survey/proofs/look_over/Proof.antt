@@ -13,7 +13,7 @@ use Rattle.lent.specs.Table.{mostTablets, tabletNumber}
 use Rattle.lent.specs.Shape.{all}
 use Rattle.lent.specs.Placing.{placedAt, placed}
 use Rattle.lent.proofs.Loops.{at-end, all-more, all-false, both-left}
-use Rattle.order.specs.Home.{keyAt, Home, Begins}
+use Rattle.order.specs.Home.{keyAt, Begins}
 use Rattle.order.proofs.Home.{begins-none, home-at}
 use Rattle.survey.specs.Seats.{Surveyed}
 use Rattle.survey.proofs.Seats.{surveyed-none, surveyed-more, surveyed-end, Seat, seat-below, seat-takes, seat-right}

@@ -1,5 +1,5 @@
 -- `survey::lowest` meets its contract. The invariant: the first k slots have no room. Assumes nothing.
-use Prim.Native.Nat.{_-_, _≤_}
+use Prim.Native.Nat.{_-_}
 use Rattle.survey.proofs.Leading.{Emptied, emptied-none, emptied-more, leads-none, leads-lowest}
 use native.Mathlib.Omega.{arith}
 use Rattle.survey.proofs.lowest.Statement.{statement}

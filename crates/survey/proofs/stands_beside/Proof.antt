@@ -1,5 +1,4 @@
 -- `survey::stands_beside` meets its contract, as the relay has room or none. Assumes nothing.
-use mathlib.Core.Path.{_≡_, _∙_}
 use borrow.Author.Tests.{lt-ltb, le-ltb}
 use borrow.Author.Needs.{needs}
 use Rattle.survey.proofs.stands_beside.Statement.{statement}

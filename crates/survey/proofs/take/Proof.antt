@@ -1,14 +1,13 @@
 -- `survey::take` meets its contract: one place less at slot k's relay, and the row stays, or leads on past k where the relay is full.
 -- Assumes nothing.
 use Rattle.order.specs.Keys.{slotRelay}
-use mathlib.Core.List.{List}
-use mathlib.Core.Path.{_≡_, sym, ap, _∙_, subst}
+use mathlib.Core.Path.{_≡_, ap}
 use Prim.Native.Nat.{ℕ, _-_}
 use denote.Ref.{now}
 use native.Mathlib.Omega.{arith}
 use lib.ListN.{getD, set}
 use Rattle.lent.specs.Placing.{roomLess}
-use Rattle.survey.specs.Row.{slotRoom, Row}
+use Rattle.survey.specs.Row.{slotRoom}
 use Rattle.survey.proofs.Shutting.{row-keeps, row-shut}
 use borrow.Author.Needs.{needs}
 use Rattle.survey.proofs.take.Statement.{statement}
