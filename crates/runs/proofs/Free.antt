@@ -1,0 +1,135 @@
+-- Runs of calls on lent numbers: history plays no part, and the tally tells the loads.
+--   same-numbers     right tables of one scheme and the same lengths, with the same sets, are the same to the last number
+--   run-free         so two runs that end with the same sets end with the same tables, whatever calls led there
+--   run-loads        from empty tables and a zero tally the relays' loads sum to enrolments less withdrawals
+-- Assumes nothing.
+use mathlib.Core.Bool.{Bool, true, _&&_}
+use mathlib.Core.List.{List, [], _∷_}
+use mathlib.Core.Path.{_≡_, refl, sym, ap, ap₂, subst, _∙_}
+use Prim.Native.Nat.{ℕ, _+_}
+use lib.Dec.{leb}
+use lib.ListN.{length}
+use Rattle.ring.specs.Scheme.{positions}
+use Rattle.ring.proofs.Tests.{and-left, and-right}
+use Rattle.rule.specs.declared.Call.{Call}
+use Rattle.rule.specs.Entry.{loads}
+use Rattle.rule.specs.Rule as Rule
+use Rattle.rule.specs.Tally.{Station, run, new}
+use Rattle.rule.proofs.History.{Fit, SameSets, same-tables}
+use Rattle.rule.proofs.Tallies.{Going, tally-loads}
+use Rattle.lent.specs.Table.{mostRelays, relayPlaces, relayNumber, relayLimit, relayWhole, mostTablets, tabletPlaces, tabletNumber, tabletRelay, tabletWhole}
+use Rattle.lent.specs.Shape.{relaysUsed, tabletsUsed, relayFits, tabletFits}
+use Rattle.lent.proofs.Shape.{used-most}
+use Rattle.meaning.specs.Meaning.{places, restUnused, ringOf, fitTables}
+use Rattle.write.specs.Tables.{relayTable, tabletTable}
+use Rattle.write.proofs.Filled.{rest-zeros, relays-filled, tablets-filled}
+use Rattle.tally.specs.Counted.{tallyOf}
+use Rattle.runs.specs.Runs.{Memory, called, calledAll, tablesRight}
+use Rattle.runs.proofs.Running.{Small, called-stands, run-right, stationOf, stepsOf, run-means}
+
+-- ---- tables that fit are the paper's tables of what they mean
+
+module _ (rs ts : List ℕ) (fits : fitTables rs ts ≡ true) where
+  abbrev relaysRest : Bool
+  relaysRest = restUnused (relayNumber rs) (relayLimit rs) (relaysUsed rs) (relayPlaces rs)
+
+  abbrev tabletsRest : Bool
+  tabletsRest = restUnused (tabletNumber ts) (tabletRelay ts) (tabletsUsed ts) (tabletPlaces ts)
+
+  behind-relays : (tabletFits ts && (relaysRest && tabletsRest)) ≡ true
+  unfolding fitTables
+  behind-relays = and-right (relayFits rs) (tabletFits ts && (relaysRest && tabletsRest)) fits
+
+  rests : (relaysRest && tabletsRest) ≡ true
+  rests = and-right (tabletFits ts) (relaysRest && tabletsRest) behind-relays
+
+  relays-whole : relayWhole rs ≡ true
+  unfolding fitTables relayFits
+  relays-whole =
+      and-left (relayWhole rs) (leb (relayPlaces rs) mostRelays) (and-left (relayFits rs) (tabletFits ts && (relaysRest && tabletsRest)) fits)
+
+  tablets-whole : tabletWhole ts ≡ true
+  unfolding tabletFits
+  tablets-whole =
+      and-left (tabletWhole ts) (leb (tabletPlaces ts) mostTablets) (and-left (tabletFits ts) (relaysRest && tabletsRest) behind-relays)
+
+  relays-stay : rs ≡ relayTable (length rs) (ringOf rs ts)
+  unfolding relayTable ringOf relaysUsed
+  relays-stay =
+      relays-filled rs (relaysUsed rs) relays-whole (used-most (relayNumber rs) (relayPlaces rs))
+      (rest-zeros (relayNumber rs) (relayLimit rs) (relaysUsed rs) (relayPlaces rs) (and-left relaysRest tabletsRest rests))
+
+  tablets-stay : ts ≡ tabletTable (length ts) (ringOf rs ts)
+  unfolding tabletTable ringOf tabletsUsed
+  tablets-stay =
+      tablets-filled ts (tabletsUsed ts) tablets-whole (used-most (tabletNumber ts) (tabletPlaces ts))
+      (rest-zeros (tabletNumber ts) (tabletRelay ts) (tabletsUsed ts) (tabletPlaces ts) (and-right relaysRest tabletsRest rests))
+
+-- ---- history plays no part
+
+module _ (s : ℕ) (rs₁ ts₁ rs₂ ts₂ : List ℕ) where
+  pub same-numbers : tablesRight s rs₁ ts₁ ≡ true → tablesRight s rs₂ ts₂ ≡ true → length rs₁ ≡ length rs₂ → length ts₁ ≡ length ts₂
+      → SameSets (ringOf rs₁ ts₁) (ringOf rs₂ ts₂) → (rs₁ ≡ rs₂) × (ts₁ ≡ ts₂)
+  unfolding tablesRight
+  same-numbers ok₁ ok₂ er et same =
+      let r₁ : Bool = Rule.right (positions s) (ringOf rs₁ ts₁) in
+      let r₂ : Bool = Rule.right (positions s) (ringOf rs₂ ts₂) in
+      let f₁ : fitTables rs₁ ts₁ ≡ true = and-left (fitTables rs₁ ts₁) r₁ ok₁ in
+      let f₂ : fitTables rs₂ ts₂ ≡ true = and-left (fitTables rs₂ ts₂) r₂ ok₂ in
+      let e : ringOf rs₁ ts₁ ≡ ringOf rs₂ ts₂ =
+      same-tables (positions s) (ringOf rs₁ ts₁) (ringOf rs₂ ts₂) (and-right (fitTables rs₁ ts₁) r₁ ok₁) (and-right (fitTables rs₂ ts₂) r₂ ok₂) same in
+      (relays-stay rs₁ ts₁ f₁ ∙ ap₂ relayTable er e ∙ sym (relays-stay rs₂ ts₂ f₂), tablets-stay rs₁ ts₁ f₁ ∙ ap₂ tabletTable et e ∙ sym (tablets-stay rs₂ ts₂ f₂))
+
+run-lengths : (s : ℕ) (m : Memory) (cs : List Call) → Small cs → tablesRight s (m .relays) (m .tablets) ≡ true
+    → (length (calledAll s m cs .relays) ≡ length (m .relays)) × (length (calledAll s m cs .tablets) ≡ length (m .tablets))
+unfolding calledAll
+run-lengths s m [] f ok = (refl, refl)
+run-lengths s m (c ∷ cs) f ok =
+    let l : (length (calledAll s (called s m c) cs .relays) ≡ length (called s m c .relays)) × (length (calledAll s (called s m c) cs .tablets) ≡ length (called s m c .tablets)) =
+    run-lengths s (called s m c) cs (f .1) (called-stands s m c (f .0) ok .right) in
+    (l .0 ∙ called-stands s m c (f .0) ok .relays, l .1 ∙ called-stands s m c (f .0) ok .tablets)
+
+module _ (s : ℕ) (m₁ m₂ : Memory) (cs₁ cs₂ : List Call) (small₁ : Small cs₁) (small₂ : Small cs₂)
+    (ok₁ : tablesRight s (m₁ .relays) (m₁ .tablets) ≡ true) (ok₂ : tablesRight s (m₂ .relays) (m₂ .tablets) ≡ true) where
+  abbrev end₁ : Memory
+  end₁ = calledAll s m₁ cs₁
+
+  abbrev end₂ : Memory
+  end₂ = calledAll s m₂ cs₂
+
+  pub run-free : length (m₁ .relays) ≡ length (m₂ .relays) → length (m₁ .tablets) ≡ length (m₂ .tablets)
+      → SameSets (ringOf (end₁ .relays) (end₁ .tablets)) (ringOf (end₂ .relays) (end₂ .tablets))
+      → (end₁ .relays ≡ end₂ .relays) × (end₁ .tablets ≡ end₂ .tablets)
+  run-free er et same =
+      same-numbers s (end₁ .relays) (end₁ .tablets) (end₂ .relays) (end₂ .tablets) (run-right s m₁ cs₁ small₁ ok₁) (run-right s m₂ cs₂ small₂ ok₂)
+      (run-lengths s m₁ cs₁ small₁ ok₁ .0 ∙ er ∙ sym (run-lengths s m₂ cs₂ small₂ ok₂ .0))
+      (run-lengths s m₁ cs₁ small₁ ok₁ .1 ∙ et ∙ sym (run-lengths s m₂ cs₂ small₂ ok₂ .1))
+      same
+
+-- ---- loads
+
+steps-fit : (s : ℕ) (m : Memory) (cs : List Call) → Small cs → Fit (stepsOf s m cs)
+unfolding stepsOf
+steps-fit s m [] f = tt
+steps-fit s m (c ∷ cs) f = (f .0, steps-fit s (called s m c) cs (f .1))
+
+-- empty tables and a zero tally
+pub record Blank (m : Memory) : Type 0 where
+  pub relays : relaysUsed (m .relays) ≡ 0
+  pub tablets : tabletsUsed (m .tablets) ≡ 0
+  pub tally : m .tally ≡ 0 ∷ 0 ∷ 0 ∷ 0 ∷ []
+
+blank-new : (m : Memory) → Blank m → stationOf m ≡ new
+unfolding stationOf ringOf places tallyOf new
+blank-new m b = rw (b .relays, b .tablets, b .tally)
+
+pub run-loads : (s : ℕ) (m : Memory) (cs : List Call) → Small cs → Blank m → tablesRight s (m .relays) (m .tablets) ≡ true
+    → Going (tallyOf (calledAll s m cs .tally))
+    → loads (ringOf (calledAll s m cs .relays) (calledAll s m cs .tablets) .relays) (ringOf (calledAll s m cs .relays) (calledAll s m cs .tablets) .tablets)
+    + tallyOf (calledAll s m cs .tally) .withdrawals ≡ tallyOf (calledAll s m cs .tally) .enrolments
+unfolding stationOf
+run-loads s m cs small b ok =
+    let e : run (positions s) new (stepsOf s m cs) ≡ stationOf (calledAll s m cs) =
+    sym (run-means s m cs small ok (ap length (b .tally)) ∙ ap (λ (t : Station). run (positions s) t (stepsOf s m cs)) (blank-new m b)) in
+    subst (λ (t : Station). Going (t .tally) → loads (t .ring .relays) (t .ring .tablets) + t .tally .withdrawals ≡ t .tally .enrolments) e
+    (tally-loads (positions s) (stepsOf s m cs) (steps-fit s m cs small))

@@ -1,0 +1,6 @@
+pub mod Again
+pub mod Rooms
+pub mod Kept
+pub mod Rosters
+pub mod Running
+pub mod Free

@@ -1,0 +1,1 @@
+// Calls one after the other on the same lent numbers: definitions and laws alone.
