@@ -158,7 +158,7 @@ fn random_input() {
 
 #[test]
 fn first_lines() {
-    for first in ["", "\n", "scheme 0", "scheme 1\n", "scheme 2\n", "scheme\n", "scheme \n", "scheme 00\n", "scheme  0\n", "scheme 0 \n"] {
+    for first in ["", "\n", "scheme 0", "scheme 1\n", "scheme 3\n", "scheme\n", "scheme \n", "scheme 00\n", "scheme  0\n", "scheme 0 \n"] {
         agree(first.as_bytes());
         agree(format!("{first}\na 10 1\nscheme 0\ne 5").as_bytes());
     }
