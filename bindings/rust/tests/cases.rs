@@ -293,6 +293,23 @@ fn limit_zero() {
     assert_eq!(agree(0, &mut memory, Withdraw(7)), [0, 20, 0, 0]);
 }
 
+/// A tablet and a relay may have one number, and a call about the one leaves the other alone.
+#[test]
+fn one_number_for_both() {
+    for scheme in [0, 1] {
+        let mut memory = blank(2, 2, 6);
+        assert_eq!(agree(scheme, &mut memory, Add(10, 2)), [0, 10, 0, 0]);
+        assert_eq!(agree(scheme, &mut memory, Find(10)), [5, 0, 0, 0]);
+        assert_eq!(agree(scheme, &mut memory, Enrol(10)), [0, 10, 0, 0]);
+        assert_eq!(agree(scheme, &mut memory, Add(10, 1)), [6, 0, 0, 0]);
+        assert_eq!(agree(scheme, &mut memory, Withdraw(10)), [0, 10, 0, 0]);
+        assert_eq!(memory.relays, [10, 2, 0, 0]);
+        assert_eq!(agree(scheme, &mut memory, Set(10, 1)), [0, 10, 0, 0]);
+        assert_eq!(agree(scheme, &mut memory, Enrol(10)), [0, 10, 0, 0]);
+        assert_eq!(agree(scheme, &mut memory, Remove(10)), [8, 0, 0, 0]);
+    }
+}
+
 /// FNV-1a's published vectors, for the second program too.
 #[test]
 fn published_vectors() {

@@ -17,9 +17,9 @@ use Rattle.balance.proofs.Ranges.{parts-some, in-range}
 
 pub balances-one : {b : Rule.Balanced} {r s : Balanced} → Balances b r → Balances b s → r ≡ s
 balances-one {b} {r} {s} x y =
-    let e : r .refusal ≡ s .refusal = x .refusal ∙ sym (y .refusal) in
+    let e : r .reply ≡ s .reply = x .reply ∙ sym (y .reply) in
     let l : r .limit ≡ s .limit = x .limit ∙ sym (y .limit) in
-    λ i. record { refusal = e i; limit = l i }
+    λ i. record { reply = e i; limit = l i }
 
 pub rounds-up : (a b : ℕ) → 0 < b → (a ≤ roundedUp a b * b) × (roundedUp a b * b < a + b)
 unfolding roundedUp

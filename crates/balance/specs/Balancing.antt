@@ -1,6 +1,7 @@
 -- What a balance promises, and the numbers that it can work with (document 01, "Sheet, balance, tally"). Assumes nothing.
 use mathlib.Core.Path.{_≡_}
 use Prim.Native.Nat.{ℕ, _≤_, _<_}
+use Rattle.rule.specs.Refusals.{refusedBy}
 use Rattle.rule.specs.Balance as Rule
 use Rattle.balance.specs.declared.Balanced.{Balanced}
 
@@ -13,7 +14,7 @@ pub record InRange (p q tablets relays : ℕ) : Type 0 where
   pub fewTablets : tablets ≤ 4096
   pub fewRelays : relays ≤ 256
 
--- the reply is document 01's
+-- the reply has document 01's refusal, and 0 for the relay, the relays passed and the moves also when it is done; the limit is document 01's
 pub record Balances (b : Rule.Balanced) (r : Balanced) : Type 0 where
-  pub refusal : r .refusal ≡ b .refusal
+  pub reply : r .reply ≡ refusedBy (b .refusal)
   pub limit : r .limit ≡ b .limit

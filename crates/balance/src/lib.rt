@@ -14,9 +14,9 @@ const MOST_RELAYS: u32 = 256;
 
 const MOST_LIMIT: u32 = 4096;
 
-// The refusal, and every relay's limit where there is none.
+// The reply, and every relay's limit; 0 where the balance is refused.
 pub struct Balanced {
-    pub refusal: rule::Refusal,
+    pub reply: rule::Reply,
     pub limit: u32,
 }
 
@@ -28,13 +28,14 @@ pub fn balance(p: u32, q: u32, tablets: u32, relays: u32) -> Balanced
     let fine = rule::done(refusal);
     if !fine {
         return Balanced {
-            refusal: refusal,
+            reply: rule::refused(refusal),
             limit: 0,
         };
     }
+    let limit = limit_for(p, q, tablets, relays);
     Balanced {
-        refusal: refusal,
-        limit: limit_for(p, q, tablets, relays),
+        reply: rule::refused(refusal),
+        limit: limit,
     }
 }
 

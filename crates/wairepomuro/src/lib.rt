@@ -155,7 +155,8 @@ pub extern "C" fn wairepomuro_balance(
 {
     let b = balance::balance(p, q, tablets, relays);
     *limit = b.limit;
-    let refusal = b.refusal;
+    let reply = b.reply;
+    let refusal = reply.refusal;
     rule::number(refusal)
 }
 
