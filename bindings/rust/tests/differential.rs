@@ -115,21 +115,24 @@ fn damaged_tables() {
     assert!(refused[..9].iter().all(|&n| n > 0), "a number was never given");
 }
 
-/// Rings as large as they may be, full or nearly so.
+/// Rings of every size up to the largest that may be, full or nearly so.
 #[test]
-fn the_largest_rings() {
+fn rings_of_every_size() {
     let shared = shared_positions();
     for seed in seeds() {
         let mut random = Random::new(seed);
-        for scheme in [0, 1] {
-            let pools = Pools::new(&mut random, scheme, 400, 6_000, &shared);
-            let ring = ring(&mut random, scheme, &pools, 256, 4_096, 33);
-            let mut memory = blank(0, 0, 3 * 4_096);
-            memory.relays = flat(&ring.relays, 512);
-            memory.tablets = flat(&ring.tablets, 8_192);
-            for _ in 0..60 {
-                let call = some_call(&mut random, &pools, 40);
-                agree(scheme, &mut memory, call);
+        for (relays, tablets) in [(1, 40), (20, 200), (64, 1_024), (130, 2_500), (256, 4_096)] {
+            for scheme in [0, 1] {
+                let pools = Pools::new(&mut random, scheme, relays + relays / 2, tablets + tablets / 2, &shared);
+                let greatest = 2 * (tablets / relays) as u32 + 1;
+                let ring = ring(&mut random, scheme, &pools, relays, tablets, greatest);
+                let mut memory = blank(0, 0, 3 * 4_096);
+                memory.relays = flat(&ring.relays, 2 * relays);
+                memory.tablets = flat(&ring.tablets, 2 * tablets);
+                for _ in 0..50 {
+                    let call = some_call(&mut random, &pools, greatest);
+                    agree(scheme, &mut memory, call);
+                }
             }
         }
     }
