@@ -10,5 +10,6 @@ pub mod page;
 pub mod plain;
 pub mod plot;
 pub mod positions;
+#[path = "../../tests/random.rs"]
 pub mod random;
 pub mod results;

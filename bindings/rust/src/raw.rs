@@ -8,75 +8,37 @@
 pub type Numbers = [u32; 4];
 
 mod archive {
+    // The calls that change tables differ in the numbers that they are about alone, and in whether the relay table is written.
+    macro_rules! changing {
+        ($($name:ident($relays:ty; $($number:ident),+);)+) => {
+            extern "C" {
+                $(pub fn $name(
+                    scheme: u32,
+                    relays: $relays,
+                    relays_length: usize,
+                    tablets: *mut u32,
+                    tablets_length: usize,
+                    moves: *mut u32,
+                    moves_length: usize,
+                    tally: *mut u32,
+                    tally_length: usize,
+                    $($number: u32,)+
+                    reply: *mut u32,
+                ) -> u32;)+
+            }
+        };
+    }
+
+    changing! {
+        wairepomuro_add(*mut u32; relay, limit);
+        wairepomuro_remove(*mut u32; relay);
+        wairepomuro_set(*mut u32; relay, limit);
+        wairepomuro_enrol(*const u32; tablet);
+        wairepomuro_withdraw(*const u32; tablet);
+    }
+
     extern "C" {
         pub fn wairepomuro_check(scheme: u32, relays: *const u32, relays_length: usize, tablets: *const u32, tablets_length: usize) -> u32;
-        pub fn wairepomuro_add(
-            scheme: u32,
-            relays: *mut u32,
-            relays_length: usize,
-            tablets: *mut u32,
-            tablets_length: usize,
-            moves: *mut u32,
-            moves_length: usize,
-            tally: *mut u32,
-            tally_length: usize,
-            relay: u32,
-            limit: u32,
-            reply: *mut u32,
-        ) -> u32;
-        pub fn wairepomuro_remove(
-            scheme: u32,
-            relays: *mut u32,
-            relays_length: usize,
-            tablets: *mut u32,
-            tablets_length: usize,
-            moves: *mut u32,
-            moves_length: usize,
-            tally: *mut u32,
-            tally_length: usize,
-            relay: u32,
-            reply: *mut u32,
-        ) -> u32;
-        pub fn wairepomuro_set(
-            scheme: u32,
-            relays: *mut u32,
-            relays_length: usize,
-            tablets: *mut u32,
-            tablets_length: usize,
-            moves: *mut u32,
-            moves_length: usize,
-            tally: *mut u32,
-            tally_length: usize,
-            relay: u32,
-            limit: u32,
-            reply: *mut u32,
-        ) -> u32;
-        pub fn wairepomuro_enrol(
-            scheme: u32,
-            relays: *const u32,
-            relays_length: usize,
-            tablets: *mut u32,
-            tablets_length: usize,
-            moves: *mut u32,
-            moves_length: usize,
-            tally: *mut u32,
-            tally_length: usize,
-            tablet: u32,
-            reply: *mut u32,
-        ) -> u32;
-        pub fn wairepomuro_withdraw(
-            scheme: u32,
-            relays: *const u32,
-            relays_length: usize,
-            tablets: *mut u32,
-            tablets_length: usize,
-            moves: *mut u32,
-            moves_length: usize,
-            tally: *mut u32,
-            tally_length: usize,
-            tablet: u32,
-            reply: *mut u32,
-        ) -> u32;
         pub fn wairepomuro_find(
             scheme: u32,
             relays: *const u32,

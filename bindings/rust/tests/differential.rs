@@ -12,7 +12,7 @@ fn runs_from_empty_tables() {
     let mut calls = 0;
     let mut refused = [0u32; 10];
     for seed in seeds() {
-        let mut random = Random::new(seed);
+        let mut random = Random(seed);
         for _ in 0..220 {
             let scheme = random.below(2) as u32;
             let pools = {
@@ -96,7 +96,7 @@ fn damaged_tables() {
     let shared = shared_positions();
     let mut refused = [0u32; 10];
     for seed in seeds() {
-        let mut random = Random::new(seed);
+        let mut random = Random(seed);
         for _ in 0..9_000 {
             let mut scheme = random.below(2) as u32;
             let (r, t) = (random.below(9), random.below(25));
@@ -120,7 +120,7 @@ fn damaged_tables() {
 fn rings_of_every_size() {
     let shared = shared_positions();
     for seed in seeds() {
-        let mut random = Random::new(seed);
+        let mut random = Random(seed);
         for (relays, tablets) in [(1, 40), (20, 200), (64, 1_024), (130, 2_500), (256, 4_096)] {
             for scheme in [0, 1] {
                 let pools = Pools::new(&mut random, scheme, relays + relays / 2, tablets + tablets / 2, &shared);

@@ -25,7 +25,7 @@ fn two_ways_to_the_order() {
     let shared = shared_positions();
     assert!(!shared.is_empty());
     for seed in seeds() {
-        let mut random = Random::new(seed);
+        let mut random = Random(seed);
         for _ in 0..500 {
             let scheme = random.below(2) as u32;
             let ring = some_ring(&mut random, scheme, &shared);
@@ -41,14 +41,14 @@ fn two_ways_to_the_order() {
 fn demand_3() {
     let shared = shared_positions();
     for seed in seeds() {
-        let mut random = Random::new(seed);
+        let mut random = Random(seed);
         for _ in 0..400 {
             let scheme = random.below(2) as u32;
             let first = some_ring(&mut random, scheme, &shared);
             let mut memory = lend(&first);
             for _ in 0..6 {
                 let call = match random.below(3) {
-                    0 => Call::Add(1 + random.next() as u32 / 2, random.below(4) as u32),
+                    0 => Call::Add(1 + random.draw() as u32 / 2, random.below(4) as u32),
                     1 => {
                         let relays: Vec<(u32, u32)> = first.relays.iter().map(|(&r, &l)| (r, l)).collect();
                         let (r, l) = random.pick(&relays);
@@ -77,7 +77,7 @@ fn demand_3() {
 fn history_plays_no_part() {
     let shared = shared_positions();
     for seed in seeds() {
-        let mut random = Random::new(seed);
+        let mut random = Random(seed);
         for _ in 0..120 {
             let scheme = random.below(2) as u32;
             let goal = some_ring(&mut random, scheme, &shared);
@@ -113,12 +113,12 @@ fn history_plays_no_part() {
 fn there_and_back() {
     let shared = shared_positions();
     for seed in seeds() {
-        let mut random = Random::new(seed);
+        let mut random = Random(seed);
         for _ in 0..400 {
             let scheme = random.below(2) as u32;
             let mut memory = lend(&some_ring(&mut random, scheme, &shared));
             let before = (memory.relays.clone(), memory.tablets.clone());
-            let number = 1 + random.next() as u32 / 2;
+            let number = 1 + random.draw() as u32 / 2;
             let limit = random.below(6) as u32;
             for (there, back) in [(Call::Enrol(number), Call::Withdraw(number)), (Call::Add(number, limit), Call::Remove(number))] {
                 if agree(scheme, &mut memory, there)[0] == 0 {

@@ -65,9 +65,9 @@ fn every_length() {
         let expected = if length == whole.len() { 0 } else { 10 };
         assert_eq!(agree(&cut, 8, 16).0, expected, "{length} bytes");
     }
-    let mut random = Random::new(7);
+    let mut random = Random(7);
     for length in 0..400 {
-        let noise: Vec<u8> = (0..length).map(|_| random.next() as u8).collect();
+        let noise: Vec<u8> = (0..length).map(|_| random.draw() as u8).collect();
         agree(&noise, 8, 16);
     }
 }
@@ -169,7 +169,7 @@ fn random_rosters() {
     let shared = shared_positions();
     let mut refused = [0u32; 13];
     for seed in seeds() {
-        let mut random = Random::new(seed);
+        let mut random = Random(seed);
         for _ in 0..3_000 {
             let scheme = random.below(2) as u32;
             let (r, t) = (random.below(9), random.below(25));

@@ -48,7 +48,7 @@ impl Tables {
 fn sheets_and_stretches() {
     let shared = shared_positions();
     for seed in seeds() {
-        let mut random = Random::new(seed);
+        let mut random = Random(seed);
         for _ in 0..1_500 {
             let mut tables = some_tables(&mut random, &shared);
             let mut lent = vec![0xdddd; tables.used() + random.below(4)];
@@ -116,7 +116,7 @@ fn balanced_limits() {
         }
     }
     for seed in seeds() {
-        let mut random = Random::new(seed);
+        let mut random = Random(seed);
         for _ in 0..50_000 {
             let q = 1 + random.below(1_000) as u32;
             let p = q + random.below(1_001 - q as usize) as u32;

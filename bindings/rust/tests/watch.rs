@@ -120,7 +120,7 @@ fn some_line(random: &mut Random, pools: &Pools, greatest: u32) -> Vec<u8> {
     let mut line = written(some_call(random, pools, greatest)).into_bytes();
     match random.below(40) {
         0..=3 => damage(random, &mut line),
-        4 => line = (0..random.below(60)).map(|_| random.next() as u8).filter(|&b| b != b'\n').collect(),
+        4 => line = (0..random.below(60)).map(|_| random.draw() as u8).filter(|&b| b != b'\n').collect(),
         5 => line.extend(std::iter::repeat(b'7').take(random.below(40))),
         6 if random.one_in(20) => line = vec![b'5'; 70_000],
         _ => {}
@@ -133,7 +133,7 @@ fn random_input() {
     let shared = shared_positions();
     let (mut calls, mut others) = (0, 0);
     for seed in seeds() {
-        let mut random = Random::new(seed);
+        let mut random = Random(seed);
         for _ in 0..60 {
             let scheme = random.below(2) as u32;
             let (r, t) = (1 + random.below(14), 1 + random.below(60));
@@ -162,7 +162,7 @@ fn first_lines() {
         agree(first.as_bytes());
         agree(format!("{first}\na 10 1\nscheme 0\ne 5").as_bytes());
     }
-    let mut random = Random::new(7);
+    let mut random = Random(7);
     for _ in 0..200 {
         let mut first = b"scheme 1".to_vec();
         damage(&mut random, &mut first);

@@ -3,41 +3,10 @@
 use crate::second::{self, Call, Memory};
 use std::time::{SystemTime, UNIX_EPOCH};
 
-/// SplitMix64.
-pub struct Random(u64);
+#[path = "../../../../tests/random.rs"]
+mod random;
 
-impl Random {
-    pub fn new(seed: u64) -> Random {
-        Random(seed)
-    }
-
-    pub fn next(&mut self) -> u64 {
-        self.0 = self.0.wrapping_add(0x9e3779b97f4a7c15);
-        let mut z = self.0;
-        z = (z ^ (z >> 30)).wrapping_mul(0xbf58476d1ce4e5b9);
-        z = (z ^ (z >> 27)).wrapping_mul(0x94d049bb133111eb);
-        z ^ (z >> 31)
-    }
-
-    /// Below `n`, which is not 0.
-    pub fn below(&mut self, n: usize) -> usize {
-        (self.next() % n as u64) as usize
-    }
-
-    pub fn one_in(&mut self, n: usize) -> bool {
-        self.below(n) == 0
-    }
-
-    pub fn pick<T: Copy>(&mut self, from: &[T]) -> T {
-        from[self.below(from.len())]
-    }
-
-    pub fn shuffle<T>(&mut self, items: &mut [T]) {
-        for i in (1..items.len()).rev() {
-            items.swap(i, self.below(i + 1));
-        }
-    }
-}
+pub use random::Random;
 
 /// Seeds that are always run, and a fresh one, which is printed.
 pub fn seeds() -> Vec<u64> {
@@ -75,10 +44,10 @@ impl Pools {
 /// Scattered, close together, or round the top of the ring.
 fn numbers(random: &mut Random, count: usize) -> Vec<u32> {
     let kind = random.below(4);
-    let base = random.next() as u32;
+    let base = random.draw() as u32;
     (0..count.max(1))
         .map(|_| match kind {
-            0 => random.next() as u32,
+            0 => random.draw() as u32,
             1 => 1 + random.below(2 * count + 3) as u32,
             2 => u32::MAX - random.below(2 * count + 3) as u32,
             _ => base.wrapping_add(random.below(3 * count + 3) as u32),

@@ -1,4 +1,4 @@
-//! SplitMix64.
+//! SplitMix64, for random rings and calls in the tests and in the benchmark.
 
 pub struct Random(pub u64);
 
@@ -16,8 +16,18 @@ impl Random {
         (self.draw() % n as u64) as usize
     }
 
+    pub fn one_in(&mut self, n: usize) -> bool {
+        self.below(n) == 0
+    }
+
     pub fn pick<T: Copy>(&mut self, from: &[T]) -> T {
         from[self.below(from.len())]
+    }
+
+    pub fn shuffle<T>(&mut self, items: &mut [T]) {
+        for i in (1..items.len()).rev() {
+            items.swap(i, self.below(i + 1));
+        }
     }
 
     /// So many numbers from 1 to `top`, rising, no two alike.
