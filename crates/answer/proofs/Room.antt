@@ -9,7 +9,7 @@ use lib.ListN.{length, getD, length-append}
 use Rattle.ring.proofs.Tests.{split}
 use Rattle.rule.specs.declared.Reply.{Reply}
 use Rattle.rule.specs.Refusals.{numberOf}
-use Rattle.answer.specs.Text.{digitsBy, numberText, numberThen, replyText, moveText, moveAt, movesText, answerText}
+use Rattle.answer.specs.Text.{digitsBy, numberText, numberThen, replyText, moveText, moveTextAt, movesText, answerText}
 
 digits-room : (more n : ℕ) → length (digitsBy more n) ≤ more + 1
 unfolding digitsBy
@@ -50,13 +50,13 @@ move-room tablet old new =
     )
 
 moves-room : (moves : List ℕ) (i : ℕ) → length (movesText moves i) ≤ 35 * i
-unfolding movesText moveAt
+unfolding movesText moveTextAt
 moves-room moves zero = omega arith
 moves-room moves (suc i) =
     omega (
       arith,
       moves-room moves i,
-      length-append (movesText moves i) (moveAt moves i),
+      length-append (movesText moves i) (moveTextAt moves i),
       move-room (getD moves (i * 3) 0) (getD moves (i * 3 + 1) 0) (getD moves (i * 3 + 2) 0),
     )
 

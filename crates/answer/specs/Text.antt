@@ -34,13 +34,13 @@ unfoldable pub moveText : ℕ → ℕ → ℕ → List ℕ
 moveText tablet old new = (109 ∷ 32 ∷ []) ++ (numberThen tablet 32 ++ (numberThen old 32 ++ numberThen new 10))
 
 -- move i of a list of numbers, three to a move
-unfoldable pub moveAt : List ℕ → ℕ → List ℕ
-moveAt moves i = moveText (getD moves (i * 3) 0) (getD moves (i * 3 + 1) 0) (getD moves (i * 3 + 2) 0)
+unfoldable pub moveTextAt : List ℕ → ℕ → List ℕ
+moveTextAt moves i = moveText (getD moves (i * 3) 0) (getD moves (i * 3 + 1) 0) (getD moves (i * 3 + 2) 0)
 
 -- the first moves
 unfoldable pub movesText : List ℕ → ℕ → List ℕ
 movesText moves zero = []
-movesText moves (suc i) = movesText moves i ++ moveAt moves i
+movesText moves (suc i) = movesText moves i ++ moveTextAt moves i
 
 -- the reply and its moves, of which a list can hold a third of its length
 unfoldable pub answerText : Reply → List ℕ → List ℕ

@@ -4,7 +4,7 @@ ghost use mathlib.Core.List.{[], _∷_, _++_};
 ghost use mathlib.Core.Path.{_≡_};
 ghost use Prim.Native.Nat.{_+_, _*_, _≤_, _<_, min};
 ghost use lib.ListN.{length};
-ghost use Rattle.answer.specs.Text.{Puts, numberThen, moveAt, movesText, answerText};
+ghost use Rattle.answer.specs.Text.{Puts, numberThen, moveTextAt, movesText, answerText};
 
 // One byte.
 fn put(out: &mut [u8], at: usize, b: u8) -> usize
@@ -45,7 +45,7 @@ fn put_number(out: &mut [u8], at: usize, n: u32, behind: u8) -> usize
 // Move i of the list.
 fn put_move(out: &mut [u8], at: usize, moves: &[u32], i: usize) -> usize
     requires { ⌜ (at ≤ length (now out)) × (i * 3 + 2 < length (now moves)) ⌝ }
-    ensures { λ next. ⌜ Puts (now (out .entry)) at (moveAt (now (moves .entry)) i) (now (out .exit)) next ⌝ }
+    ensures { λ next. ⌜ Puts (now (out .entry)) at (moveTextAt (now (moves .entry)) i) (now (out .exit)) next ⌝ }
 {
     let first = i * 3;
     let tablet = put_bytes(out, at, b"m ");

@@ -12,8 +12,6 @@ const MOST_TABLETS: u32 = 4096;
 
 const MOST_RELAYS: u32 = 256;
 
-const MOST_LIMIT: u32 = 4096;
-
 // The reply, and every relay's limit; 0 where the balance is refused.
 pub struct Balanced {
     pub reply: rule::Reply,
@@ -92,9 +90,9 @@ fn limit_for(p: u32, q: u32, tablets: u32, relays: u32) -> u32
     ensures { λ r. ⌜ r ≡ balancedLimit p q tablets relays ⌝ }
 {
     let share = rounded_up(p * tablets, q * relays);
-    if share <= MOST_LIMIT {
+    if share <= rule::MOST_LIMIT {
         share
     } else {
-        MOST_LIMIT
+        rule::MOST_LIMIT
     }
 }

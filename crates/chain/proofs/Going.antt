@@ -16,7 +16,7 @@ use Rattle.lent.specs.Table.{mostRelays, relayNumber, tabletPlaces}
 use Rattle.lent.proofs.Loops.{stored}
 use Rattle.order.specs.Keys.{slotRelay}
 use Rattle.meaning.specs.Meaning.{places, tabletsIn}
-use Rattle.slots.specs.Slots.{slotAt, stepsTo, numberAt, limitAt, round}
+use Rattle.slots.specs.Slots.{slotAt, stepsTo, roundNumber, roundLimit, round}
 use Rattle.slots.proofs.Steps.{slot-inside, steps-inside, slot-steps, steps-slot, slot-next}
 use Rattle.chain.specs.Chain.{nameAt, chainOf, nextSlot, Keeps, From, Going, Chained}
 use Rattle.chain.specs.Visit.{givesWay, Visited}
@@ -83,16 +83,16 @@ module _ {p : Positions} {rs ts : List ℕ} {n m : ℕ} {keys last : List ℕ} {
           seat-size = v .seat-size;
           keeps = subst (λ (s : Turn). Keeps x rs ts place′ seat′ n m c′ s) (sym one-more)
               (keeps-visited x rs ts place seat n m c (turn (tabletsIn ts m) (newcomer x) (round rs keys n h d)) (g .keeps) (g .place-size) (g .seat-size) (omega (arith, room-for-one ne)) i (rw ei relay-small) (room-for-one ne)
-              (tabletsIn ts m) (entry (numberAt rs keys n h d) (limitAt rs keys n h d)) l place′ seat′ c′ (rw el (last-small i ei)) number
+              (tabletsIn ts m) (entry (roundNumber rs keys n h d) (roundLimit rs keys n h d)) l place′ seat′ c′ (rw el (last-small i ei)) number
               (ap (greatest (tabletsIn ts m)) number ∙ greatest-last (f .rises) i (rw ei relay-small) last (f .greatest) ∙ ap (λ (z : ℕ). numberBefore ts z) (sym el))
               w (ew ∙ sym (g .keeps .walker)) v);
         }
       where
-        number : numberAt rs keys n h d ≡ relayNumber rs i
-        number = unfold numberAt in (ap (λ (z : ℕ). relayNumber rs (slotRelay keys z)) (sym (g .at)) ∙ ap (relayNumber rs) (sym ei))
+        number : roundNumber rs keys n h d ≡ relayNumber rs i
+        number = unfold roundNumber in (ap (λ (z : ℕ). relayNumber rs (slotRelay keys z)) (sym (g .at)) ∙ ap (relayNumber rs) (sym ei))
 
-        one-more : turn (tabletsIn ts m) (newcomer x) (round rs keys n h (d + 1)) ≡ turnAt (tabletsIn ts m) (turn (tabletsIn ts m) (newcomer x) (round rs keys n h d)) (entry (numberAt rs keys n h d) (limitAt rs keys n h d))
-        one-more = ap (λ (z : ℕ). turn (tabletsIn ts m) (newcomer x) (round rs keys n h z)) (add-one d) ∙ unfold places in (turn-last (tabletsIn ts m) (newcomer x) (round rs keys n h d) (entry (numberAt rs keys n h d) (limitAt rs keys n h d)))
+        one-more : turn (tabletsIn ts m) (newcomer x) (round rs keys n h (d + 1)) ≡ turnAt (tabletsIn ts m) (turn (tabletsIn ts m) (newcomer x) (round rs keys n h d)) (entry (roundNumber rs keys n h d) (roundLimit rs keys n h d))
+        one-more = ap (λ (z : ℕ). turn (tabletsIn ts m) (newcomer x) (round rs keys n h z)) (add-one d) ∙ unfold places in (turn-last (tabletsIn ts m) (newcomer x) (round rs keys n h d) (entry (roundNumber rs keys n h d) (roundLimit rs keys n h d)))
 
         count-few : (b : Bool) → c′ ≡ cond b (c + 1) c → c′ ≤ d + 1
         count-few true e = omega (arith, g .few)

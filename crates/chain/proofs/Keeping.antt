@@ -29,7 +29,7 @@ use Rattle.meaning.proofs.Places.{ascending-apart, ascending-fewer}
 use Rattle.meaning.proofs.More.{greatest-more}
 use Rattle.meaning.proofs.Placed.{Found}
 use Rattle.meaning.proofs.Right.{Rises, right-found}
-use Rattle.chain.specs.Chain.{nameAt, fromAt, moveAt, chainOf, Keeps}
+use Rattle.chain.specs.Chain.{nameAt, fromAt, linkAt, chainOf, Keeps}
 use Rattle.chain.specs.Visit.{givesWay, Visited}
 
 -- ---- one visit
@@ -120,8 +120,8 @@ module _ (x : ℕ) (rs ts : List ℕ) where
   from-ext seat seat′ (suc c) h = ap (relayNumber rs) (h c (omega arith))
 
   move-ext : (place place′ seat seat′ : List ℕ) (c : ℕ) → (0 < c → getD place′ c 0 ≡ getD place c 0) → ((i : ℕ) → i < suc c → getD seat′ i 0 ≡ getD seat i 0)
-      → moveAt x rs ts place′ seat′ c ≡ moveAt x rs ts place seat c
-  unfolding moveAt
+      → linkAt x rs ts place′ seat′ c ≡ linkAt x rs ts place seat c
+  unfolding linkAt
   move-ext place place′ seat seat′ c hp hs =
       let a = name-ext place place′ c hp in
       let b = from-ext seat seat′ c (λ i k. hs i (omega arith)) in
@@ -142,7 +142,7 @@ module _ (x : ℕ) (rs ts : List ℕ) where
   module _ (place seat : List ℕ) (n m c : ℕ) (s : Turn) (k : Keeps x rs ts place seat n m c s) (lp : length place ≡ 256) (ls : length seat ≡ 256) (hc : c < 256) (r : ℕ) (hr : r < n) where
     -- the walker sits down at relay r
     sat : (place′ : List ℕ) → ((i : ℕ) → i ≤ c → getD place′ i 0 ≡ getD place i 0) → seats s (relayNumber rs r) ≡ chainOf x rs ts place′ (set seat c r) (suc c)
-    unfolding seats chainOf moveAt
+    unfolding seats chainOf linkAt
     sat place′ hp =
         let same : (i : ℕ) → i < c → getD (set seat c r) i 0 ≡ getD seat i 0 = λ i l. getD-set-other seat c i r 0 (λ (e : i ≡ c). omega arith) in
         let a : s .chain ≡ chainOf x rs ts place′ (set seat c r) c = k .chain ∙ sym (chain-ext place place′ seat (set seat c r) c (λ i z l. hp i (omega arith)) same) in

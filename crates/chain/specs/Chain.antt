@@ -28,13 +28,14 @@ unfoldable pub fromAt : List ℕ → List ℕ → ℕ → ℕ
 fromAt rs seat zero = 0
 fromAt rs seat (suc c) = relayNumber rs (getD seat c 0)
 
-unfoldable pub moveAt : ℕ → List ℕ → List ℕ → List ℕ → List ℕ → ℕ → Move
-moveAt x rs ts place seat c = record { tablet = nameAt x ts place c; old = fromAt rs seat c; new = relayNumber rs (getD seat c 0) }
+-- the c-th link of the chain
+unfoldable pub linkAt : ℕ → List ℕ → List ℕ → List ℕ → List ℕ → ℕ → Move
+linkAt x rs ts place seat c = record { tablet = nameAt x ts place c; old = fromAt rs seat c; new = relayNumber rs (getD seat c 0) }
 
 -- the first c who sat down
 unfoldable pub chainOf : ℕ → List ℕ → List ℕ → List ℕ → List ℕ → ℕ → List Move
 chainOf x rs ts place seat zero = []
-chainOf x rs ts place seat (suc c) = chainOf x rs ts place seat c ++ (moveAt x rs ts place seat c ∷ [])
+chainOf x rs ts place seat (suc c) = chainOf x rs ts place seat c ++ (linkAt x rs ts place seat c ∷ [])
 
 -- the state of a turn: c sat down, and the next walks
 pub record Keeps (x : ℕ) (rs ts place seat : List ℕ) (n m c : ℕ) (s : Turn) : Type 0 where

@@ -33,12 +33,6 @@ fn first_slot(n: usize, h: usize) -> usize
     if h == n { 0 } else { h }
 }
 
-fn from_u16(x: u16) -> usize
-    ensures { λ r. ⌜ r ≡ x ⌝ }
-{
-    x as usize
-}
-
 // The number of who walks once c sat down.
 fn walker(tablets: &[u32], place: &[u16; 256], c: usize, x: u32) -> u32
     requires { ⌜ (c < 256) × (0 < c → getD (now place) c 0 < tabletPlaces (now tablets)) ⌝ }
@@ -47,7 +41,7 @@ fn walker(tablets: &[u32], place: &[u16; 256], c: usize, x: u32) -> u32
     if c == 0 {
         return x;
     }
-    lent::tablet_number(tablets, from_u16(place[c])).0
+    lent::tablet_number(tablets, ring::from_u16(place[c])).0
 }
 
 // Does the greatest tablet at a relay give way to w?
@@ -113,7 +107,15 @@ pub fn turn(
     while k != stop {
         let i = order::slot_relay(keys, k);
         let w = walker(tablets, &place, c, x);
-        c = visit(tablets, &mut place, &mut seat, c, w, i, from_u16(last[i]));
+        c = visit(
+            tablets,
+            &mut place,
+            &mut seat,
+            c,
+            w,
+            i,
+            ring::from_u16(last[i]),
+        );
         k = next_slot(n, k);
         d += 1;
     }

@@ -27,8 +27,8 @@ use Rattle.write.specs.Wrote.{WroteTablets, Place}
 use Rattle.write.proofs.Filled.{tablets-table, zeros-behind}
 use Rattle.look.specs.Promise.{after, Answers}
 use Rattle.look.proofs.Refusing.{accepted-answers}
-use Rattle.enrol.specs.declared.Plan.{Plan}
-use Rattle.enrol.specs.Enrol.{othersOf, Seated, Worked, Planned}
+use Rattle.enrol.specs.declared.Enrolment.{Enrolment}
+use Rattle.enrol.specs.Enrol.{othersOf, OthersSeated, Worked, Prepared}
 use Rattle.enrol.proofs.Working.{length-others}
 use Rattle.enrol.proofs.Seating.{places-still}
 
@@ -57,11 +57,11 @@ seated-insert (m ∷ ms) low up x c h es =
     ap (seated ms) (put-insert (m .tablet) (m .new) x c es (λ (e : m .tablet ≡ x). omega (arith, up .0)))
     ∙ seated-insert ms (m .tablet) (up .1) x c (omega (arith, up .0)) (put (m .tablet) (m .new) es)
 
-module _ {s : ℕ} {rs ts ms : List ℕ} {t : TabletNumber} {p : Plan} (pl : Planned s rs ts ms t p) (d : isDone (p .refusal) ≡ true) where
+module _ {s : ℕ} {rs ts ms : List ℕ} {t : TabletNumber} {p : Enrolment} (pl : Prepared s rs ts ms t p) (d : isDone (p .refusal) ≡ true) where
   abbrev w : Worked s rs ts ms t (p .m) (p .at) (p .chain)
   w = pl .worked d
 
-  pub place-still : {ts₁ ms₁ : List ℕ} → Seated (t .0) rs ts ms (p .chain .place) (p .chain .seat) ts₁ ms₁ (p .m) (p .chain .others)
+  pub place-still : {ts₁ ms₁ : List ℕ} → OthersSeated (t .0) rs ts ms (p .chain .place) (p .chain .seat) ts₁ ms₁ (p .m) (p .chain .others)
       → (p .m < tabletPlaces ts₁) × Place (tabletNumber ts₁) (p .m) (t .0) (p .at)
   place-still {ts₁} sd = (
     places-still ts₁ ts (sd .size) (w .unused),
@@ -72,7 +72,7 @@ module _ {s : ℕ} {rs ts ms : List ℕ} {t : TabletNumber} {p : Plan} (pl : Pla
     },
   )
 
-  pub enrolled-answers : {ts₁ ms₁ ts₂ : List ℕ} → Seated (t .0) rs ts ms (p .chain .place) (p .chain .seat) ts₁ ms₁ (p .m) (p .chain .others) → (r i : ℕ) → i ≡ getD (p .chain .seat) 0 0 → r ≡ relayNumber rs i
+  pub enrolled-answers : {ts₁ ms₁ ts₂ : List ℕ} → OthersSeated (t .0) rs ts ms (p .chain .place) (p .chain .seat) ts₁ ms₁ (p .m) (p .chain .others) → (r i : ℕ) → i ≡ getD (p .chain .seat) 0 0 → r ≡ relayNumber rs i
       → WroteTablets ts₁ ts₂ (p .m + 1) (insert (t .0) r (tabletsIn ts₁ (p .m)))
       → Answers (after s rs ts ms (Enrol t)) (record { refusal = Done; relay = r; passed = p .chain .steps; moves = p .chain .others }) rs ts₂ ms₁
   unfolding accepted tabletTable

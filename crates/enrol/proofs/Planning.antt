@@ -4,12 +4,12 @@ use mathlib.Core.Path.{_≡_, refl, sym, ap, _∙_}
 use mathlib.Core.List.{List}
 use Prim.Native.Nat.{ℕ, _/_, _^_, _≤_, _<_}
 use native.Mathlib.Omega.{arith}
-use borrow.Author.Tests.{eqb-false, leb-false}
+use borrow.Author.Tests.{eqb-false, leb-false, not-true, not-false}
 use lib.Dec.{eqb, leb}
 use lib.ListN.{length}
 use Rattle.ring.specs.Scheme.{positions}
 use Rattle.ring.specs.declared.TabletNumber.{TabletNumber}
-use Rattle.ring.proofs.Tests.{not-false, true-false}
+use Rattle.ring.proofs.Tests.{true-false}
 use Rattle.rule.specs.declared.Refusal.{Refusal}
 use Rattle.rule.specs.declared.Refusal.the-variants.{Done, LimitsTooSmall, MoveListTooShort}
 use Rattle.rule.specs.declared.Call.the-variants.{Enrol}
@@ -28,24 +28,23 @@ use Rattle.write.specs.Tables.{relayTable}
 use Rattle.meaning.proofs.Places.{has-place}
 use Rattle.slots.proofs.Steps.{steps-inside}
 use Rattle.look.specs.Start.{Start}
-use Rattle.look.proofs.Checked.{not-true}
 use Rattle.look.proofs.Refusing.{start-rises, start-ring, number-refused, limits-refused, list-refused, all-passed}
 use Rattle.look.proofs.Stays.{tablets-whole, tablets-zeros, relays-stay}
 use Rattle.chain.specs.Chain.{From, Chained}
-use Rattle.enrol.specs.declared.Plan.{Plan}
-use Rattle.enrol.specs.Enrol.{barred, Seeks, othersOf, Planned}
+use Rattle.enrol.specs.declared.Enrolment.{Enrolment}
+use Rattle.enrol.specs.Enrol.{newcomerRefusal, Seeks, othersOf, Prepared}
 use Rattle.enrol.proofs.Working.{number-bars, shut-small, open-enough, stop-inside, steps-passed, others-moves, others-above, first-relay, others-after, length-others}
 
 -- a test that came out false
 pub test-false : {b : Bool} (r : Refusal) → b ≡ isDone r → not b ≡ true → isDone r ≡ false
-test-false r e h = sym e ∙ not-true h
+test-false r e h = sym e ∙ not-true _ h
 
 pub test-true : {b : Bool} (r : Refusal) → b ≡ isDone r → not b ≡ false → isDone r ≡ true
 test-true {b} r e h = sym e ∙ not-false b h
 
 -- a refusal, and nothing planned
-pub refused-plan : {s : ℕ} {rs ts ms : List ℕ} {t : TabletNumber} (p : Plan) (r : Refusal) → p .refusal ≡ r → isDone r ≡ false
-    → refusal (positions s) (lentOf s rs ts ms) (ringOf rs ts) (Enrol t) ≡ r → Planned s rs ts ms t p
+pub refused-plan : {s : ℕ} {rs ts ms : List ℕ} {t : TabletNumber} (p : Enrolment) (r : Refusal) → p .refusal ≡ r → isDone r ≡ false
+    → refusal (positions s) (lentOf s rs ts ms) (ringOf rs ts) (Enrol t) ≡ r → Prepared s rs ts ms t p
 refused-plan p r e n h = record { refusal = e ∙ sym h; worked = λ d. absurd (true-false (sym d ∙ ap isDone e ∙ n)) }
 
 -- the refusals of the number, passed
@@ -54,8 +53,8 @@ pub record Passed (x : ℕ) (there : Bool) (places m : ℕ) : Type 0 where
   pub new : there ≡ false
   pub unused : m < places
 
-pub bars-passed : (x : ℕ) (there : Bool) (places m : ℕ) → isDone (barred x there places m) ≡ true → Passed x there places m
-unfolding barred isDone
+pub bars-passed : (x : ℕ) (there : Bool) (places m : ℕ) → isDone (newcomerRefusal x there places m) ≡ true → Passed x there places m
+unfolding newcomerRefusal isDone
 bars-passed x there places m h =
     let a = bar-passed (eqb x 0) _ _ refl h in
     let b = bar-passed there _ _ refl (a .1) in
@@ -69,12 +68,12 @@ module _ {s : ℕ} {rs ts : List ℕ} {n m : ℕ} {v : Survey} (b : Start s rs t
   rises = start-rises b
 
   abbrev bar : Refusal
-  bar = barred (t .0) there places m
+  bar = newcomerRefusal (t .0) there places m
 
   bars : (ms : List ℕ) → firstBar (Calls.wrongNumbers (lentOf s rs ts ms) (ringOf rs ts) (Enrol t)) ≡ bar
-  bars ms = number-bars b t ms there et ∙ ap (λ (z : ℕ). barred (t .0) there z m) (sym ep)
+  bars ms = number-bars b t ms there et ∙ ap (λ (z : ℕ). newcomerRefusal (t .0) there z m) (sym ep)
 
-  pub barred-plan : {ms : List ℕ} (p : Plan) (r : Refusal) → r ≡ bar → p .refusal ≡ r → isDone r ≡ false → Planned s rs ts ms t p
+  pub barred-plan : {ms : List ℕ} (p : Enrolment) (r : Refusal) → r ≡ bar → p .refusal ≡ r → isDone r ≡ false → Prepared s rs ts ms t p
   barred-plan {ms} p r e ep n = refused-plan p r ep n (number-refused s rs ts ms (Enrol t) b r (bars ms ∙ sym e) n)
 
   module _ (fine : isDone bar ≡ true) {h stop : ℕ} {opens : Bool} (k : Seeks (positions s) n (v .keys) (v .room) (t .0) h stop opens) where
@@ -84,7 +83,7 @@ module _ {s : ℕ} {rs ts : List ℕ} {n m : ℕ} {v : Survey} (b : Start s rs t
     numbers-fine : (ms : List ℕ) → isDone (firstBar (Calls.wrongNumbers (lentOf s rs ts ms) (ringOf rs ts) (Enrol t))) ≡ true
     numbers-fine ms = ap isDone (bars ms) ∙ fine
 
-    pub shut-plan : {ms : List ℕ} (p : Plan) → p .refusal ≡ LimitsTooSmall → opens ≡ false → Planned s rs ts ms t p
+    pub shut-plan : {ms : List ℕ} (p : Enrolment) → p .refusal ≡ LimitsTooSmall → opens ≡ false → Prepared s rs ts ms t p
     unfolding isDone
     shut-plan {ms} p e o = refused-plan p LimitsTooSmall e refl (limits-refused s rs ts ms (Enrol t) b (numbers-fine ms) (shut-small b t k o))
 
@@ -99,14 +98,14 @@ module _ {s : ℕ} {rs ts : List ℕ} {n m : ℕ} {v : Survey} (b : Start s rs t
         the-moves : moves (positions s) (ringOf rs ts) (Enrol t) ≡ othersOf (t .0) rs ts place seat c
         the-moves = others-moves b t k o small (free .some-number) (sym et ∙ free .new) w
 
-        pub short-plan : {ms : List ℕ} (p : Plan) → p .refusal ≡ MoveListTooShort → length ms / 3 < c → Planned s rs ts ms t p
+        pub short-plan : {ms : List ℕ} (p : Enrolment) → p .refusal ≡ MoveListTooShort → length ms / 3 < c → Prepared s rs ts ms t p
         unfolding isDone
         short-plan {ms} p e l =
             refused-plan p MoveListTooShort e refl
             (list-refused s rs ts ms (Enrol t) b (numbers-fine ms) (open-enough b t k o)
             (unfold lentOf in (omega (arith, ap length the-moves, length-others (t .0) rs ts place seat c))))
 
-        pub whole-plan : {ms : List ℕ} (p : Plan) → p .refusal ≡ Done → p .m ≡ m → p .at ≡ at → p .chain ≡ record { others = c; steps = d; place = place; seat = seat } → c ≤ length ms / 3 → Planned s rs ts ms t p
+        pub whole-plan : {ms : List ℕ} (p : Enrolment) → p .refusal ≡ Done → p .m ≡ m → p .at ≡ at → p .chain ≡ record { others = c; steps = d; place = place; seat = seat } → c ≤ length ms / 3 → Prepared s rs ts ms t p
         whole-plan {ms} p er em ea ec l =
             record {
               refusal = er ∙ sym (all-passed s rs ts ms (Enrol t) b (numbers-fine ms) (open-enough b t k o) (unfold lentOf in (omega (arith, ap length the-moves, length-others (t .0) rs ts place seat c))));

@@ -19,12 +19,12 @@ use Rattle.write.specs.Listing as Listing
 use Rattle.write.specs.Places.{SetBeside}
 use Rattle.write.specs.Wrote.{WroteTablets, Climbs}
 use Rattle.write.proofs.Listed.{listed-none, listed-more, length-listed}
-use Rattle.chain.specs.Chain.{moveAt, nameAt, fromAt}
-use Rattle.enrol.specs.Enrol.{othersOf, SatDown, Seated}
+use Rattle.chain.specs.Chain.{linkAt, nameAt, fromAt}
+use Rattle.enrol.specs.Enrol.{othersOf, OneSeated, OthersSeated}
 use Rattle.enrol.proofs.Working.{length-others}
 
 pub sat-down : (rs ts ms : List ℕ) {ts′ ms′ : List ℕ} (m c j old new a b r : ℕ) → WroteTablets ts ts′ m (put (tabletNumber ts j) r (tabletsIn ts m)) → SetBeside tabletNumber tabletRelay ts ts′ j r
-    → a ≡ tabletNumber ts j → b ≡ relayNumber rs old → r ≡ relayNumber rs new → ms′ ≡ Listing.moveAt ms c a b r → SatDown rs ts ts′ ms ms′ m c j old new
+    → a ≡ tabletNumber ts j → b ≡ relayNumber rs old → r ≡ relayNumber rs new → ms′ ≡ Listing.setMove ms c a b r → OneSeated rs ts ts′ ms ms′ m c j old new
 sat-down rs ts ms m c j old new a b r w s ea eb er e =
     record {
       entries = w .entries ∙ ap (λ (z : ℕ). put (tabletNumber ts j) z (tabletsIn ts m)) er;
@@ -38,14 +38,14 @@ pub climbs-still : {f g : ℕ → ℕ} {m : ℕ} → ((i : ℕ) → g i ≡ f i)
 climbs-still e u = record { up = λ i l a b. let z = u .up i l a b in omega (arith, e i, e l) }
 
 module _ (x : ℕ) (rs ts ms place seat : List ℕ) (m : ℕ) where
-  pub seating-start : Seated x rs ts ms place seat ts ms m 0
+  pub seating-start : OthersSeated x rs ts ms place seat ts ms m 0
   unfolding othersOf seated
   seating-start = record { size = refl; numbers = λ i. refl; relays = λ i h. refl; entries = refl; list = listed-none ms }
 
-  pub seating-more : {ts₁ ms₁ ts₂ ms₂ : List ℕ} (c : ℕ) → Seated x rs ts ms place seat ts₁ ms₁ m c → 3 * (c + 1) ≤ length ms
-      → SatDown rs ts₁ ts₂ ms₁ ms₂ m c (getD place (c + 1) 0) (getD seat c 0) (getD seat (c + 1) 0) → Seated x rs ts ms place seat ts₂ ms₂ m (c + 1)
+  pub seating-more : {ts₁ ms₁ ts₂ ms₂ : List ℕ} (c : ℕ) → OthersSeated x rs ts ms place seat ts₁ ms₁ m c → 3 * (c + 1) ≤ length ms
+      → OneSeated rs ts₁ ts₂ ms₁ ms₂ m c (getD place (c + 1) 0) (getD seat c 0) (getD seat (c + 1) 0) → OthersSeated x rs ts ms place seat ts₂ ms₂ m (c + 1)
   seating-more {ts₁} {ms₁} {ts₂} {ms₂} c s h d =
-      let one : Move = moveAt x rs ts place seat (suc c) in
+      let one : Move = linkAt x rs ts place seat (suc c) in
       let e : othersOf x rs ts place seat (c + 1) ≡ othersOf x rs ts place seat c ++ (one ∷ []) = ap (othersOf x rs ts place seat) (add-one c) ∙ unfold othersOf in refl in
       let t : tabletNumber ts₁ (getD place (c + 1) 0) ≡ one .tablet = s .numbers (getD place (c + 1) 0) ∙ name in
       record {
@@ -60,14 +60,14 @@ module _ (x : ℕ) (rs ts ms place seat : List ℕ) (m : ℕ) where
             ∙ ap (λ (l : List Move). listed l ms) (sym e);
       }
     where
-      name : tabletNumber ts (getD place (c + 1) 0) ≡ moveAt x rs ts place seat (suc c) .tablet
-      name = unfold moveAt nameAt in (ap (λ (z : ℕ). tabletNumber ts (getD place z 0)) (add-one c))
+      name : tabletNumber ts (getD place (c + 1) 0) ≡ linkAt x rs ts place seat (suc c) .tablet
+      name = unfold linkAt nameAt in (ap (λ (z : ℕ). tabletNumber ts (getD place z 0)) (add-one c))
 
-      from : relayNumber rs (getD seat c 0) ≡ moveAt x rs ts place seat (suc c) .old
-      from = unfold moveAt fromAt in refl
+      from : relayNumber rs (getD seat c 0) ≡ linkAt x rs ts place seat (suc c) .old
+      from = unfold linkAt fromAt in refl
 
-      to : relayNumber rs (getD seat (c + 1) 0) ≡ moveAt x rs ts place seat (suc c) .new
-      to = unfold moveAt in (ap (λ (z : ℕ). relayNumber rs (getD seat z 0)) (add-one c))
+      to : relayNumber rs (getD seat (c + 1) 0) ≡ linkAt x rs ts place seat (suc c) .new
+      to = unfold linkAt in (ap (λ (z : ℕ). relayNumber rs (getD seat z 0)) (add-one c))
 
 -- ---- what stays
 
@@ -75,12 +75,12 @@ pub places-still : (a b : List ℕ) {m : ℕ} → length a ≡ length b → m �
 unfolding tabletPlaces
 places-still a b e h = rw e h
 
-pub list-length : {x : ℕ} {rs ts ms place seat ts′ ms′ : List ℕ} {m c : ℕ} (others : ℕ) → c ≤ others → 3 * others ≤ length ms → Seated x rs ts ms place seat ts′ ms′ m c → length ms′ ≡ length ms
+pub list-length : {x : ℕ} {rs ts ms place seat ts′ ms′ : List ℕ} {m c : ℕ} (others : ℕ) → c ≤ others → 3 * others ≤ length ms → OthersSeated x rs ts ms place seat ts′ ms′ m c → length ms′ ≡ length ms
 list-length {x} {rs} {ts} {ms} {place} {seat} {c = c} others l h s =
     ap length (s .list) ∙ length-listed (othersOf x rs ts place seat c) ms (omega (arith, length-others x rs ts place seat c))
 
-pub sat-at : {rs ts ts′ ms ms′ : List ℕ} {m c j old new j′ old′ new′ : ℕ} → SatDown rs ts ts′ ms ms′ m c j old new → j ≡ j′ → old ≡ old′ → new ≡ new′ → SatDown rs ts ts′ ms ms′ m c j′ old′ new′
+pub sat-at : {rs ts ts′ ms ms′ : List ℕ} {m c j old new j′ old′ new′ : ℕ} → OneSeated rs ts ts′ ms ms′ m c j old new → j ≡ j′ → old ≡ old′ → new ≡ new′ → OneSeated rs ts ts′ ms ms′ m c j′ old′ new′
 sat-at d ej eo en = rw (← ej, ← eo, ← en) d
 
-pub seated-all : {x : ℕ} {rs ts ms place seat ts′ ms′ : List ℕ} {m c others : ℕ} → c ≤ others → others ≤ c → Seated x rs ts ms place seat ts′ ms′ m c → Seated x rs ts ms place seat ts′ ms′ m others
-seated-all {x} {rs} {ts} {ms} {place} {seat} {ts′} {ms′} {m} {c} {others} a b s = subst (λ (z : ℕ). Seated x rs ts ms place seat ts′ ms′ m z) (omega arith) s
+pub seated-all : {x : ℕ} {rs ts ms place seat ts′ ms′ : List ℕ} {m c others : ℕ} → c ≤ others → others ≤ c → OthersSeated x rs ts ms place seat ts′ ms′ m c → OthersSeated x rs ts ms place seat ts′ ms′ m others
+seated-all {x} {rs} {ts} {ms} {place} {seat} {ts′} {ms′} {m} {c} {others} a b s = subst (λ (z : ℕ). OthersSeated x rs ts ms place seat ts′ ms′ m z) (omega arith) s

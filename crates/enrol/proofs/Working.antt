@@ -43,14 +43,14 @@ use Rattle.meaning.proofs.Places.{length-places}
 use Rattle.meaning.proofs.More.{total-more}
 use Rattle.meaning.proofs.Run.{run-left}
 use Rattle.meaning.proofs.Right.{Rises, right-room}
-use Rattle.slots.specs.Slots.{slotAt, stepsTo, numberAt, limitAt, round}
+use Rattle.slots.specs.Slots.{slotAt, stepsTo, roundNumber, roundLimit, round}
 use Rattle.slots.proofs.Steps.{slot-inside, steps-inside, slot-steps, steps-slot, ahead-steps}
 use Rattle.slots.proofs.Lists.{upTo-places, first-places}
 use Rattle.slots.proofs.Round.{order-round}
 use Rattle.look.specs.Start.{Start}
 use Rattle.look.proofs.Refusing.{found, start-rises, start-ring}
-use Rattle.chain.specs.Chain.{moveAt, chainOf, Chained}
-use Rattle.enrol.specs.Enrol.{barred, Seeks, othersOf}
+use Rattle.chain.specs.Chain.{linkAt, chainOf, Chained}
+use Rattle.enrol.specs.Enrol.{newcomerRefusal, Seeks, othersOf}
 
 -- ---- totals
 
@@ -74,15 +74,15 @@ firstNew [] = 0
 firstNew (m ∷ ms) = m .new
 
 module _ (x : ℕ) (rs ts place seat : List ℕ) where
-  pub chain-split : (c : ℕ) → chainOf x rs ts place seat (suc c) ≡ moveAt x rs ts place seat 0 ∷ othersOf x rs ts place seat c
+  pub chain-split : (c : ℕ) → chainOf x rs ts place seat (suc c) ≡ linkAt x rs ts place seat 0 ∷ othersOf x rs ts place seat c
   unfolding chainOf othersOf
   chain-split zero = refl
-  chain-split (suc c) = ap (λ (l : List Move). l ++ (moveAt x rs ts place seat (suc c) ∷ [])) (chain-split c)
+  chain-split (suc c) = ap (λ (l : List Move). l ++ (linkAt x rs ts place seat (suc c) ∷ [])) (chain-split c)
 
   pub length-others : (c : ℕ) → length (othersOf x rs ts place seat c) ≡ c
   unfolding othersOf
   length-others zero = refl
-  length-others (suc c) = length-append (othersOf x rs ts place seat c) (moveAt x rs ts place seat (suc c) ∷ []) ∙ omega (arith, length-others c)
+  length-others (suc c) = length-append (othersOf x rs ts place seat c) (linkAt x rs ts place seat (suc c) ∷ []) ∙ omega (arith, length-others c)
 
 module _ {s : ℕ} {rs ts : List ℕ} {n m : ℕ} {v : Survey} (b : Start s rs ts n m v) (t : TabletNumber) where
   abbrev p : Positions
@@ -103,8 +103,8 @@ module _ {s : ℕ} {rs ts : List ℕ} {n m : ℕ} {v : Survey} (b : Start s rs t
   -- ---- refusals
 
   pub number-bars : (ms : List ℕ) (there : Bool) → there ≡ has (tabletsIn ts m) x
-      → firstBar (wrongNumbers (lentOf s rs ts ms) (ringOf rs ts) (Enrol t)) ≡ barred x there (tabletPlaces ts) m
-  unfolding wrongNumbers barred lentOf
+      → firstBar (wrongNumbers (lentOf s rs ts ms) (ringOf rs ts) (Enrol t)) ≡ newcomerRefusal x there (tabletPlaces ts) m
+  unfolding wrongNumbers newcomerRefusal lentOf
   number-bars ms there e =
       ap (λ (g : Ring). firstBar (wrongNumbers (lentOf s rs ts ms) g (Enrol t))) (start-ring b)
       ∙ rw (← e, length-places (tabletNumber ts) (tabletRelay ts) m)
@@ -171,8 +171,8 @@ module _ {s : ℕ} {rs ts : List ℕ} {n m : ℕ} {v : Survey} (b : Start s rs t
       d = stepsTo n h stop
 
       -- a relay of the round has room exactly where its slot has
-      room-slot : (i : ℕ) → i < n → hasRoom (tabletsIn ts m) (entry (numberAt rs keys n h i) (limitAt rs keys n h i)) ≡ ltb 0 (slotRoom keys room (slotAt n h i))
-      unfolding hasRoom numberAt limitAt slotRoom
+      room-slot : (i : ℕ) → i < n → hasRoom (tabletsIn ts m) (entry (roundNumber rs keys n h i) (roundLimit rs keys n h i)) ≡ ltb 0 (slotRoom keys room (slotAt n h i))
+      unfolding hasRoom roundNumber roundLimit slotRoom
       room-slot i c =
           let j : ℕ = slotRelay keys (slotAt n h i) in
           let inside : j < n = b .surveyed .ordered .holds .relay (slotAt n h i) (slot-inside n h in-ring i c) in
@@ -182,7 +182,7 @@ module _ {s : ℕ} {rs ts : List ℕ} {n m : ℕ} {v : Survey} (b : Start s rs t
           (λ s. s ∙ sym (lt-ltb 0 (getD room j 0) (omega (arith, ltb-true (load (tabletsIn ts m) (relayNumber rs j)) (relayLimit rs j) s))))
           (λ s. s ∙ sym (le-ltb 0 (getD room j 0) (omega (arith, ltb-false (load (tabletsIn ts m) (relayNumber rs j)) (relayLimit rs j) s))))
 
-      none-before : (i : ℕ) → i < d → hasRoom (tabletsIn ts m) (entry (numberAt rs keys n h i) (limitAt rs keys n h i)) ≡ false
+      none-before : (i : ℕ) → i < d → hasRoom (tabletsIn ts m) (entry (roundNumber rs keys n h i) (roundLimit rs keys n h i)) ≡ false
       none-before i c =
           let few : d < n = steps-inside n h in-ring stop stop-inside in
           let ci : i < n = omega arith in
@@ -198,7 +198,7 @@ module _ {s : ℕ} {rs ts : List ℕ} {n m : ℕ} {v : Survey} (b : Start s rs t
       at-stop : slotAt n h d ≡ stop
       at-stop = slot-steps n h in-ring stop stop-inside
 
-      room-there : hasRoom (tabletsIn ts m) (entry (numberAt rs keys n h d) (limitAt rs keys n h d)) ≡ true
+      room-there : hasRoom (tabletsIn ts m) (entry (roundNumber rs keys n h d) (roundLimit rs keys n h d)) ≡ true
       room-there =
           room-slot d (steps-inside n h in-ring stop stop-inside)
           ∙ ap (λ (z : ℕ). ltb 0 (slotRoom keys room z)) at-stop ∙ lt-ltb 0 (slotRoom keys room stop) stop-room
@@ -208,17 +208,17 @@ module _ {s : ℕ} {rs ts : List ℕ} {n m : ℕ} {v : Survey} (b : Start s rs t
         the-order = order-round p rs n (rises .relaysFit .few) (rises .relays) keys (b .surveyed .ordered) x small h (k .home)
 
         abbrev f : Entry
-        f = entry (numberAt rs keys n h d) (limitAt rs keys n h d)
+        f = entry (roundNumber rs keys n h d) (roundLimit rs keys n h d)
 
         the-first : first (hasRoom (tabletsIn ts m)) (order p x (relaysIn rs n)) ≡ some f
         the-first =
             ap (first (hasRoom (tabletsIn ts m))) the-order
-            ∙ first-places (hasRoom (tabletsIn ts m)) (numberAt rs keys n h) (limitAt rs keys n h) n d (steps-inside n h in-ring stop stop-inside) none-before room-there
+            ∙ first-places (hasRoom (tabletsIn ts m)) (roundNumber rs keys n h) (roundLimit rs keys n h) n d (steps-inside n h in-ring stop stop-inside) none-before room-there
 
         the-fulls : upTo (hasRoom (tabletsIn ts m)) (order p x (relaysIn rs n)) ≡ round rs keys n h d
         the-fulls =
             ap (upTo (hasRoom (tabletsIn ts m))) the-order
-            ∙ upTo-places (hasRoom (tabletsIn ts m)) (numberAt rs keys n h) (limitAt rs keys n h) n d (steps-inside n h in-ring stop stop-inside) none-before room-there
+            ∙ upTo-places (hasRoom (tabletsIn ts m)) (roundNumber rs keys n h) (roundLimit rs keys n h) n d (steps-inside n h in-ring stop stop-inside) none-before room-there
 
         module _ (some-number : 0 < x) (new : has (tabletsIn ts m) x ≡ false) where
           not-in : In x (numbers (tabletsIn ts m)) → ⊥
@@ -233,13 +233,13 @@ module _ {s : ℕ} {rs ts : List ℕ} {n m : ℕ} {v : Survey} (b : Start s rs t
           pub steps-passed : passed p (ringOf rs ts) (Enrol t) ≡ d
           steps-passed =
               ap (λ (g : Ring). passed p g (Enrol t)) (start-ring b) ∙ enrol-passed p ring right t some-number not-in many
-              ∙ ap length the-fulls ∙ length-places (numberAt rs keys n h) (limitAt rs keys n h) d
+              ∙ ap length the-fulls ∙ length-places (roundNumber rs keys n h) (roundLimit rs keys n h) d
 
           module _ {c y : ℕ} {place seat : List ℕ} (w : Chained rs ts n m keys h stop x c y place seat) where
             stop-number : f .number ≡ relayNumber rs (slotRelay keys stop)
-            stop-number = unfold numberAt in (ap (λ (z : ℕ). relayNumber rs (slotRelay keys z)) at-stop)
+            stop-number = unfold roundNumber in (ap (λ (z : ℕ). relayNumber rs (slotRelay keys z)) at-stop)
 
-            the-chain : record { tablet = x; old = 0; new = chain .seat } ∷ chain .rest ≡ moveAt x rs ts place seat 0 ∷ othersOf x rs ts place seat c
+            the-chain : record { tablet = x; old = 0; new = chain .seat } ∷ chain .rest ≡ linkAt x rs ts place seat 0 ∷ othersOf x rs ts place seat c
             the-chain =
                 sym (chain .is)
                 ∙ ap (λ (l : List Entry). seats (turn (tabletsIn ts m) (newcomer x) l) (f .number)) the-fulls
@@ -251,7 +251,7 @@ module _ {s : ℕ} {rs ts : List ℕ} {n m : ℕ} {v : Survey} (b : Start s rs t
             the-rest = let q = the-chain in cc
 
             the-seat : chain .seat ≡ relayNumber rs (getD seat 0 0)
-            unfolding moveAt
+            unfolding linkAt
             the-seat = ap firstNew the-chain
 
             pub others-moves : moves p (ringOf rs ts) (Enrol t) ≡ othersOf x rs ts place seat c

@@ -27,12 +27,12 @@ use Rattle.write.specs.Wrote.{Climbs, Place}
 use Rattle.write.specs.Places.{Zeros}
 use Rattle.write.specs.Listing as Listing
 use Rattle.chain.specs.declared.Chain.{Chain}
-use Rattle.chain.specs.Chain.{moveAt}
-use Rattle.enrol.specs.declared.Plan.{Plan}
+use Rattle.chain.specs.Chain.{linkAt}
+use Rattle.enrol.specs.declared.Enrolment.{Enrolment}
 
 -- the refusals 3, 6 and 7
-unfoldable pub barred : ℕ → Bool → ℕ → ℕ → Refusal
-barred number there places m = firstBar (bar (eqb number 0) NumberZero ∷ bar there ThereAlready ∷ bar (leb places m) NoUnusedPlace ∷ [])
+unfoldable pub newcomerRefusal : ℕ → Bool → ℕ → ℕ → Refusal
+newcomerRefusal number there places m = firstBar (bar (eqb number 0) NumberZero ∷ bar there ThereAlready ∷ bar (leb places m) NoUnusedPlace ∷ [])
 
 -- the newcomer's home, and the first slot with room from there, if any has room
 pub record Seeks (p : Positions) (n : ℕ) (keys room : List ℕ) (x h stop : ℕ) (opens : Bool) : Type 0 where
@@ -44,18 +44,18 @@ pub record Seeks (p : Positions) (n : ℕ) (keys room : List ℕ) (x h stop : �
 -- those who gave way, in the order of the chain
 unfoldable pub othersOf : ℕ → List ℕ → List ℕ → List ℕ → List ℕ → ℕ → List Move
 othersOf x rs ts place seat zero = []
-othersOf x rs ts place seat (suc c) = othersOf x rs ts place seat c ++ (moveAt x rs ts place seat (suc c) ∷ [])
+othersOf x rs ts place seat (suc c) = othersOf x rs ts place seat c ++ (linkAt x rs ts place seat (suc c) ∷ [])
 
 -- the tablet at place j sits down at another relay, as move c of the list; the relays are told by their places
-pub record SatDown (rs ts ts′ ms ms′ : List ℕ) (m c j old new : ℕ) : Type 0 where
+pub record OneSeated (rs ts ts′ ms ms′ : List ℕ) (m c j old new : ℕ) : Type 0 where
   pub entries : tabletsIn ts′ m ≡ put (tabletNumber ts j) (relayNumber rs new) (tabletsIn ts m)
   pub size : length ts′ ≡ length ts
   pub numbers : (i : ℕ) → tabletNumber ts′ i ≡ tabletNumber ts i
   pub relays : (i : ℕ) → m ≤ i → tabletRelay ts′ i ≡ tabletRelay ts i
-  pub list : ms′ ≡ Listing.moveAt ms c (tabletNumber ts j) (relayNumber rs old) (relayNumber rs new)
+  pub list : ms′ ≡ Listing.setMove ms c (tabletNumber ts j) (relayNumber rs old) (relayNumber rs new)
 
 -- c of them are seated in the table and listed
-pub record Seated (x : ℕ) (rs ts ms place seat ts′ ms′ : List ℕ) (m c : ℕ) : Type 0 where
+pub record OthersSeated (x : ℕ) (rs ts ms place seat ts′ ms′ : List ℕ) (m c : ℕ) : Type 0 where
   pub size : length ts′ ≡ length ts
   pub numbers : (i : ℕ) → tabletNumber ts′ i ≡ tabletNumber ts i
   pub relays : (i : ℕ) → m ≤ i → tabletRelay ts′ i ≡ tabletRelay ts i
@@ -71,7 +71,7 @@ pub record Seatable (rs ts ms place seat : List ℕ) (m others : ℕ) : Type 0 w
   pub relays : (i : ℕ) → i ≤ others → getD seat i 0 < relayPlaces rs
   pub list : 3 * others ≤ length ms
 
--- ---- the plan
+-- ---- what it comes to
 
 -- what is to be written once nothing refuses the call: the newcomer's place, and who sits down where
 pub record Worked (scheme : ℕ) (rs ts ms : List ℕ) (t : TabletNumber) (m at : ℕ) (c : Chain) : Type 0 where
@@ -89,6 +89,6 @@ pub record Worked (scheme : ℕ) (rs ts ms : List ℕ) (t : TabletNumber) (m at 
       ≡ seated (othersOf (t .0) rs ts (c .place) (c .seat) (c .others)) (insert (t .0) (relayNumber rs (getD (c .seat) 0 0)) (tabletsIn ts m))
   pub relays : rs ≡ relayTable (length rs) (Calls.after (positions scheme) (ringOf rs ts) (Enrol t))
 
-pub record Planned (scheme : ℕ) (rs ts ms : List ℕ) (t : TabletNumber) (p : Plan) : Type 0 where
+pub record Prepared (scheme : ℕ) (rs ts ms : List ℕ) (t : TabletNumber) (p : Enrolment) : Type 0 where
   pub refusal : p .refusal ≡ refusal (positions scheme) (lentOf scheme rs ts ms) (ringOf rs ts) (Enrol t)
   pub worked : isDone (p .refusal) ≡ true → Worked scheme rs ts ms t (p .m) (p .at) (p .chain)

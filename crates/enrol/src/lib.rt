@@ -13,12 +13,12 @@ ghost use Rattle.order.specs.Keys.{Rising};
 ghost use Rattle.survey.specs.Row.{Row};
 ghost use Rattle.write.specs.Wrote.{Climbs};
 ghost use Rattle.look.specs.Promise.{after, Answers};
-ghost use Rattle.enrol.specs.Enrol.{barred, Seeks, SatDown, Seatable, Seated, Planned};
+ghost use Rattle.enrol.specs.Enrol.{newcomerRefusal, Seeks, OneSeated, Seatable, OthersSeated, Prepared};
 
 // ---- refusals of the number
 
-fn barred(number: u32, there: bool, places: usize, m: usize) -> rule::Refusal
-    ensures { λ r. ⌜ r ≡ barred number there places m ⌝ }
+fn newcomer_refusal(number: u32, there: bool, places: usize, m: usize) -> rule::Refusal
+    ensures { λ r. ⌜ r ≡ newcomerRefusal number there places m ⌝ }
 {
     if number == 0 {
         return rule::Refusal::NumberZero;
@@ -70,18 +70,6 @@ fn opens(n: usize, room: u32) -> bool
 
 // ---- writing it
 
-fn from_u8(x: u8) -> usize
-    ensures { λ r. ⌜ r ≡ x ⌝ }
-{
-    x as usize
-}
-
-fn from_u16(x: u16) -> usize
-    ensures { λ r. ⌜ r ≡ x ⌝ }
-{
-    x as usize
-}
-
 // The c-th of those who gave way sits down: it is listed, and its new relay written.
 fn seat_one(
     relays: &[u32],
@@ -94,7 +82,7 @@ fn seat_one(
     new: usize,
 )
     requires { ⌜ (j < m) × (m ≤ tabletPlaces (now tablets)) × Climbs (tabletNumber (now tablets)) m × (old < relayPlaces (now relays)) × (new < relayPlaces (now relays)) × (3 * (c + 1) ≤ length (now moves)) ⌝ }
-    ensures { λ _. ⌜ SatDown (now (relays .entry)) (now (tablets .entry)) (now (tablets .exit)) (now (moves .entry)) (now (moves .exit)) m c j old new ⌝ }
+    ensures { λ _. ⌜ OneSeated (now (relays .entry)) (now (tablets .entry)) (now (tablets .exit)) (now (moves .entry)) (now (moves .exit)) m c j old new ⌝ }
 {
     let t = lent::tablet_number(tablets, j);
     let from = lent::relay_number(relays, old);
@@ -114,33 +102,33 @@ fn seat_others(
     others: usize,
 )
     requires { ⌜ Seatable (now relays) (now tablets) (now moves) (now place) (now seat) m others ⌝ }
-    ensures { λ _. ⌜ ((x : ℕ) → Seated x (now (relays .entry)) (now (tablets .entry)) (now (moves .entry)) (now (place .entry)) (now (seat .entry)) (now (tablets .exit)) (now (moves .exit)) m others) ⌝ }
+    ensures { λ _. ⌜ ((x : ℕ) → OthersSeated x (now (relays .entry)) (now (tablets .entry)) (now (moves .entry)) (now (place .entry)) (now (seat .entry)) (now (tablets .exit)) (now (moves .exit)) m others) ⌝ }
 {
     let mut c: usize = 0;
     while c < others {
-        let j = from_u16(place[c + 1]);
-        let old = from_u8(seat[c]);
-        let new = from_u8(seat[c + 1]);
+        let j = ring::from_u16(place[c + 1]);
+        let old = ring::from_u8(seat[c]);
+        let new = ring::from_u8(seat[c + 1]);
         seat_one(relays, tablets, moves, m, c, j, old, new);
         c += 1;
     }
 }
 
-// ---- the plan
+// ---- what it comes to
 
 // What an enrolment comes to: the refusal, or the newcomer's place in the table and everybody who sits down.
-pub struct Plan {
+pub struct Enrolment {
     pub refusal: rule::Refusal,
     pub m: usize,
     pub at: usize,
     pub chain: chain::Chain,
 }
 
-// A refusal, with nothing planned.
-fn no_plan(refusal: rule::Refusal) -> Plan
+// A refusal, with nobody to seat.
+fn no_enrolment(refusal: rule::Refusal) -> Enrolment
     ensures { λ r. ⌜ r .refusal ≡ refusal ⌝ }
 {
-    Plan {
+    Enrolment {
         refusal: refusal,
         m: 0,
         at: 0,
@@ -153,39 +141,39 @@ fn no_plan(refusal: rule::Refusal) -> Plan
     }
 }
 
-// `room` is how many moves the lent list can take.
-fn work_out(
+// For a move list of so many places.
+fn prepare(
     scheme: u32,
     relays: &[u32],
     tablets: &[u32],
-    room: usize,
+    places: usize,
     t: ring::TabletNumber,
-) -> Plan
-    ensures { λ r. ⌜ ((ms : List ℕ) → room ≡ length ms / 3 → Planned scheme (now (relays .entry)) (now (tablets .entry)) ms t r) ⌝ }
+) -> Enrolment
+    ensures { λ r. ⌜ ((ms : List ℕ) → places ≡ length ms / 3 → Prepared scheme (now (relays .entry)) (now (tablets .entry)) ms t r) ⌝ }
 {
     let l = look::look(scheme, relays, tablets);
     let first = l.refusal;
     let right = rule::done(first);
     if !right {
-        return no_plan(first);
+        return no_enrolment(first);
     }
     let n = l.n;
     let m = l.m;
     let at = spot::tablet_spot(tablets, m, t);
     let there = spot::tablet_there(tablets, m, at, t);
-    let bar = barred(t.0, there, lent::tablet_places(tablets), m);
+    let bar = newcomer_refusal(t.0, there, lent::tablet_places(tablets), m);
     let free = rule::done(bar);
     if !free {
-        return no_plan(bar);
+        return no_enrolment(bar);
     }
     let s = l.survey;
     let keys = s.keys;
-    let room_left = s.room;
+    let room = s.room;
     let next = s.next;
     let last = s.last;
-    let sought = seek(scheme, n, &keys, &room_left, &next, t);
+    let sought = seek(scheme, n, &keys, &room, &next, t);
     if !sought.opens {
-        return no_plan(rule::Refusal::LimitsTooSmall);
+        return no_enrolment(rule::Refusal::LimitsTooSmall);
     }
     let chain = chain::turn(
         relays,
@@ -198,10 +186,10 @@ fn work_out(
         sought.stop,
         t.0,
     );
-    if room < chain.others {
-        return no_plan(rule::Refusal::MoveListTooShort);
+    if places < chain.others {
+        return no_enrolment(rule::Refusal::MoveListTooShort);
     }
-    Plan {
+    Enrolment {
         refusal: rule::Refusal::Done,
         m: m,
         at: at,
@@ -220,7 +208,7 @@ pub fn enrol(
 ) -> rule::Reply
     ensures { λ reply. ⌜ Answers (after scheme (now (relays .entry)) (now (tablets .entry)) (now (moves .entry)) (Enrol t)) reply (now (relays .entry)) (now (tablets .exit)) (now (moves .exit)) ⌝ }
 {
-    let p = work_out(scheme, relays, tablets, moves.len() / 3, t);
+    let p = prepare(scheme, relays, tablets, moves.len() / 3, t);
     let refusal = p.refusal;
     let accepted = rule::done(refusal);
     if !accepted {
@@ -229,7 +217,7 @@ pub fn enrol(
     let c = p.chain;
     let place = c.place;
     let seat = c.seat;
-    let relay = lent::relay_number(relays, from_u8(seat[0]));
+    let relay = lent::relay_number(relays, ring::from_u8(seat[0]));
     seat_others(relays, tablets, moves, p.m, &place, &seat, c.others);
     write::insert_tablet(tablets, p.m, p.at, t, relay);
     rule::Reply {

@@ -5,9 +5,9 @@ use mathlib.Core.Path.{_≡_, sym, ap, _∙_}
 use mathlib.Core.List.{List, []}
 use Prim.Native.Nat.{ℕ}
 use native.Mathlib.Omega.{arith}
+use borrow.Author.Tests.{not-false}
 use Rattle.ring.specs.Scheme.{positions}
 use Rattle.ring.specs.declared.TabletNumber.{TabletNumber}
-use Rattle.ring.proofs.Tests.{not-false}
 use Rattle.rule.specs.declared.Move.{Move}
 use Rattle.rule.specs.declared.Refusal.the-variants.{Done}
 use Rattle.rule.specs.declared.Call.the-variants.{Find}

@@ -19,12 +19,12 @@ use Rattle.rule.proofs.Puts.{delete-hit, delete-miss, put-hit, put-miss}
 use Rattle.lent.specs.Table.{tabletPlaces, tabletNumber, tabletRelay}
 use Rattle.meaning.specs.Meaning.{tabletsIn}
 use Rattle.write.specs.Tables.{listed}
-use Rattle.write.specs.Listing.{moveAt}
+use Rattle.write.specs.Listing.{setMove}
 use Rattle.write.specs.Wrote.{WroteTablets, Climbs}
 use Rattle.write.specs.Places.{SetBeside, TookOut}
 use Rattle.write.proofs.Listed.{listed-none, listed-more, length-listed}
 use Rattle.holes.specs.Holes.{Climbing}
-use Rattle.holes.specs.Filling.{movesOf, Fillers, SatDown, Filled}
+use Rattle.holes.specs.Filling.{movesOf, Fillers, MovedUp, Filled}
 
 -- ---- one more
 
@@ -98,7 +98,7 @@ module _ (ts ms : List ℕ) (m : ℕ) (places : List ℕ) (count r : ℕ) where
     sit-long = ap length (s .list) ∙ length-listed (firsts c) ms (omega (arith, length-moves ts r (take c places), length-take-le c places (omega (arith, s .within, f .few, f .size)), s .within, f .long))
 
     module _ (h : c < count) {j : ℕ} (ej : j ≡ getD places c 0) {t old : ℕ} (et : t ≡ tabletNumber tablets j) (eo : old ≡ tabletRelay tablets j)
-        {moves′ : List ℕ} (em : moves′ ≡ moveAt moves c t old new) {tablets′ : List ℕ}
+        {moves′ : List ℕ} (em : moves′ ≡ setMove moves c t old new) {tablets′ : List ℕ}
         (es : WroteTablets tablets tablets′ m (put (tabletNumber tablets j) new (tabletsIn tablets m)) × SetBeside tabletNumber tabletRelay tablets tablets′ j new) where
       abbrev J : ℕ
       J = getD places c 0
@@ -148,7 +148,7 @@ module _ (ts ms : List ℕ) (m : ℕ) (places : List ℕ) (count r : ℕ) where
           }
 
     pub sit-end : count ≤ c
-        → SatDown ts tablets m (movesOf ts r (take count places)) × (moves ≡ listed (movesOf ts r (take count places)) ms)
+        → MovedUp ts tablets m (movesOf ts r (take count places)) × (moves ≡ listed (movesOf ts r (take count places)) ms)
     sit-end h =
         let z : c ≡ count = omega (arith, s .within) in
         rw (← z)
@@ -194,7 +194,7 @@ module _ (ts : List ℕ) (x : ℕ) where
       ∙ ap (seated (movesOf ts (tabletRelay ts j) js)) (delete-put x (tabletNumber ts j) r es (o .0))
 
 module _ {ts ms : List ℕ} {m : ℕ} {places : List ℕ} {count at : ℕ} (f : Fillers ts ms m places count) (h : at < m) (k : Climbing places count at m) (r : ℕ)
-    {mid : List ℕ} (s : SatDown ts mid m (movesOf ts r (take count places))) where
+    {mid : List ℕ} (s : MovedUp ts mid m (movesOf ts r (take count places))) where
   pub filled-climbs : Climbs (tabletNumber mid) m
   filled-climbs = record { up = λ i l u v. rw (s .numbers i, s .numbers l) (f .numbers .up i l u v) }
 

@@ -17,7 +17,7 @@ use lib.Seq.{getD-set-same, getD-set-other, take-suc-set}
 use Rattle.ring.proofs.Tests.{split}
 use Rattle.lent.specs.Table.{mostRelays}
 use Rattle.survey.specs.Row.{slotRoom}
-use Rattle.holes.specs.Holes.{passedAt, movers, Sweeps, Next, Climbing, Chains}
+use Rattle.holes.specs.Holes.{passedAt, movers, Sweeps, Next, Climbing, MoversAre}
 use Rattle.holes.proofs.Counting.{lastOf, last-above, last-below, fewer, fewer-most, fewer-more}
 
 -- ---- the search
@@ -172,7 +172,7 @@ module _ (home slot : List ℕ) (m at : ℕ) where
             );
           }
 
-      pub sweep-end : m ≤ j → Chains home slot m at (record { count = count; places = places })
+      pub sweep-end : m ≤ j → MoversAre home slot m at (record { count = count; places = places })
       sweep-end h =
           let z : j ≡ m = omega (arith, w .next .high) in
           let a : m - j ≡ 0 = omega arith in

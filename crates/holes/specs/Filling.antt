@@ -28,7 +28,7 @@ pub record Fillers (ts ms : List ℕ) (m : ℕ) (places : List ℕ) (count : ℕ
   pub long : 3 * count ≤ length ms
 
 -- the first m tablets sit by these moves, every number stays, and so do the places behind them
-pub record SatDown (before after : List ℕ) (m : ℕ) (moves : List Move) : Type 0 where
+pub record MovedUp (before after : List ℕ) (m : ℕ) (moves : List Move) : Type 0 where
   pub wrote : WroteTablets before after m (seated moves (tabletsIn before m))
   pub numbers : (i : ℕ) → tabletNumber after i ≡ tabletNumber before i
 

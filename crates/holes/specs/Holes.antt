@@ -8,7 +8,7 @@ use lib.Dec.{ltb}
 use lib.ListN.{length, getD, take}
 use Rattle.lent.specs.Table.{mostRelays, mostTablets}
 use Rattle.survey.specs.Row.{slotRoom}
-use Rattle.holes.specs.declared.Chain.{Chain}
+use Rattle.holes.specs.declared.Movers.{Movers}
 
 -- how many slots slot k is clockwise from slot h, on a ring of as many as there may be relays
 unfoldable pub around : ℕ → ℕ → ℕ
@@ -46,9 +46,9 @@ pub record Climbing (places : List ℕ) (count low high : ℕ) : Type 0 where
   pub below : (c : ℕ) → c < count → getD places c 0 < high
   pub up : (c d : ℕ) → c < d → d < count → getD places c 0 < getD places d 0
 
--- the chain has those who move when the tablet at place `at` leaves its relay
-pub record Chains (home slot : List ℕ) (m at : ℕ) (chain : Chain) : Type 0 where
-  pub size : length (chain .places) ≡ mostRelays
-  pub few : chain .count ≤ mostRelays
-  pub climbs : Climbing (chain .places) (chain .count) at m
-  pub are : take (chain .count) (chain .places) ≡ movers home slot at (suc at) (m - suc at)
+-- these are those who move when the tablet at place `at` leaves its relay
+pub record MoversAre (home slot : List ℕ) (m at : ℕ) (who : Movers) : Type 0 where
+  pub size : length (who .places) ≡ mostRelays
+  pub few : who .count ≤ mostRelays
+  pub climbs : Climbing (who .places) (who .count) at m
+  pub are : take (who .count) (who .places) ≡ movers home slot at (suc at) (m - suc at)

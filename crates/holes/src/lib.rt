@@ -6,21 +6,15 @@ ghost use lib.Dec.{ltb};
 ghost use lib.ListN.{take};
 ghost use Rattle.lent.specs.Table.{mostTablets, tabletRelay};
 ghost use Rattle.write.specs.Tables.{listed};
-ghost use Rattle.holes.specs.Holes.{around, Next, Sweeps, Climbing, Chains};
-ghost use Rattle.holes.specs.Filling.{movesOf, Fillers, SatDown, Filled};
+ghost use Rattle.holes.specs.Holes.{around, Next, Sweeps, Climbing, MoversAre};
+ghost use Rattle.holes.specs.Filling.{movesOf, Fillers, MovedUp, Filled};
 
 // ---- who moves
 
 // The places of those who move, by rising number: the first so many.
-pub struct Chain {
+pub struct Movers {
     pub count: usize,
     pub places: [u16; 256],
-}
-
-fn from_u8(x: u8) -> usize
-    ensures { λ r. ⌜ r ≡ x ⌝ }
-{
-    x as usize
 }
 
 // Had a tablet with its home at slot h and its relay at slot k passed the relay at another slot? It is the same on a ring of 256 slots,
@@ -59,7 +53,7 @@ fn next_mover<'a>(
     requires { ⌜ Sweeps (now keys) (now room) (now home) (now slot) m × (i < m) ⌝ }
     ensures { λ r. ⌜ Next (now (home .entry)) (now (slot .entry)) m i r ⌝ }
 {
-    let relay = order::slot_relay(keys, from_u8(slot[i]));
+    let relay = order::slot_relay(keys, ring::from_u8(slot[i]));
     if 0 < room[relay] {
         m
     } else {
@@ -75,9 +69,9 @@ pub fn holes<'a>(
     slot: &'a [u8; 4096],
     m: usize,
     at: usize,
-) -> Chain
+) -> Movers
     requires { ⌜ Sweeps (now keys) (now room) (now home) (now slot) m × (at < m) ⌝ }
-    ensures { λ c. ⌜ Chains (now (home .entry)) (now (slot .entry)) m at c ⌝ }
+    ensures { λ c. ⌜ MoversAre (now (home .entry)) (now (slot .entry)) m at c ⌝ }
 {
     let mut places = [0u16; 256];
     let mut count: usize = 0;
@@ -87,19 +81,13 @@ pub fn holes<'a>(
         count += 1;
         j = next_mover(keys, room, home, slot, m, j);
     }
-    Chain {
+    Movers {
         count: count,
         places: places,
     }
 }
 
 // ---- they sit down
-
-fn from_u16(x: u16) -> usize
-    ensures { λ r. ⌜ r ≡ x ⌝ }
-{
-    x as usize
-}
 
 // Those at the first `count` places sit down, the first at relay r, each other where the one before left, and are listed.
 fn sit_down(
@@ -111,12 +99,12 @@ fn sit_down(
     r: ring::RelayNumber,
 )
     requires { ⌜ Fillers (now tablets) (now moves) m (now places) count ⌝ }
-    ensures { λ _. ⌜ SatDown (now (tablets .entry)) (now (tablets .exit)) m (movesOf (now (tablets .entry)) (r .0) (take count (now (places .entry)))) × (now (moves .exit) ≡ listed (movesOf (now (tablets .entry)) (r .0) (take count (now (places .entry)))) (now (moves .entry))) ⌝ }
+    ensures { λ _. ⌜ MovedUp (now (tablets .entry)) (now (tablets .exit)) m (movesOf (now (tablets .entry)) (r .0) (take count (now (places .entry)))) × (now (moves .exit) ≡ listed (movesOf (now (tablets .entry)) (r .0) (take count (now (places .entry)))) (now (moves .entry))) ⌝ }
 {
     let mut new = r;
     let mut c: usize = 0;
     while c < count {
-        let j = from_u16(places[c]);
+        let j = ring::from_u16(places[c]);
         let t = lent::tablet_number(tablets, j);
         let old = lent::tablet_relay(tablets, j);
         write::list_move(moves, c, t.0, old.0, new.0);

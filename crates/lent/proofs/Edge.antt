@@ -9,10 +9,10 @@ use Prim.Native.Nat.{ℕ, zero, suc, _+_, _≤_, _<_}
 use native.Mathlib.Omega.{arith}
 use borrow.Author.Tests.{ltb-true, ltb-false}
 use lib.Dec.{ltb}
-use Rattle.ring.proofs.Tests.{split}
+use Rattle.ring.proofs.Tests.{split, and-right}
 use Rattle.lent.specs.Table.{relayPlaces, relayNumber, relayLimit, tabletPlaces, tabletNumber, tabletRelay}
-use Rattle.lent.specs.Shape.{used, shape, Edge, topLimit, topNumber, relaysUsed, tabletsUsed, relayFits, tabletFits, relayShape, tabletShape, RelayEntries, TabletEntries}
-use Rattle.lent.proofs.Loops.{both-right}
+use Rattle.rule.specs.Rule.{mostLimit}
+use Rattle.lent.specs.Shape.{used, shape, Edge, topNumber, relaysUsed, tabletsUsed, relayFits, tabletFits, relayShape, tabletShape, RelayEntries, TabletEntries}
 use Rattle.lent.proofs.Shape.{shape-within, shape-entry, shape-rest, shape-used}
 
 module _ (number : ℕ → ℕ) (places : ℕ) where
@@ -63,8 +63,8 @@ pub relay-entries-are : {rs : List ℕ} {n : ℕ} {b : Bool} → Edge (relayNumb
 unfolding relayShape relaysUsed
 relay-entries-are {rs} {n} s e =
     record {
-      test = rw (← edge-shape (relayNumber rs) (relayPlaces rs) topLimit (relayLimit rs) s) e;
-      count = λ t. edge-count (relayNumber rs) (relayPlaces rs) topLimit (relayLimit rs) s (both-right (relayFits rs) (shape topLimit (relayNumber rs) (relayLimit rs) n (relayPlaces rs)) (sym e ∙ t));
+      test = rw (← edge-shape (relayNumber rs) (relayPlaces rs) mostLimit (relayLimit rs) s) e;
+      count = λ t. edge-count (relayNumber rs) (relayPlaces rs) mostLimit (relayLimit rs) s (and-right (relayFits rs) (shape mostLimit (relayNumber rs) (relayLimit rs) n (relayPlaces rs)) (sym e ∙ t));
     }
 
 pub tablet-entries-are : {ts : List ℕ} {m : ℕ} {b : Bool} → Edge (tabletNumber ts) (tabletPlaces ts) m m → b ≡ tabletShape ts m → TabletEntries ts b m
@@ -72,5 +72,5 @@ unfolding tabletShape tabletsUsed
 tablet-entries-are {ts} {m} s e =
     record {
       test = rw (← edge-shape (tabletNumber ts) (tabletPlaces ts) topNumber (tabletRelay ts) s) e;
-      count = λ t. edge-count (tabletNumber ts) (tabletPlaces ts) topNumber (tabletRelay ts) s (both-right (tabletFits ts) (shape topNumber (tabletNumber ts) (tabletRelay ts) m (tabletPlaces ts)) (sym e ∙ t));
+      count = λ t. edge-count (tabletNumber ts) (tabletPlaces ts) topNumber (tabletRelay ts) s (and-right (tabletFits ts) (shape topNumber (tabletNumber ts) (tabletRelay ts) m (tabletPlaces ts)) (sym e ∙ t));
     }

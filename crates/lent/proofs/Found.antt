@@ -2,13 +2,12 @@
 --   relays-found, tablets-found              the entries can be in use
 --   relays-wrong, tablets-wrong, placed-test  the tables are wrong by the one shape or the other, and else right as they are placed
 -- Assumes nothing.
-use mathlib.Core.Bool.{Bool, true, false, not}
+use mathlib.Core.Bool.{Bool, true, false, not, and-false}
 use mathlib.Core.List.{List}
 use mathlib.Core.Path.{_≡_, sym, ap, ap₂, _∙_}
 use Prim.Native.Nat.{ℕ}
 use borrow.Author.Tests.{not-true, not-false}
 use Rattle.ring.specs.Scheme.{Positions}
-use Rattle.ring.proofs.Tests.{and-false}
 use Rattle.lent.specs.Table.{RelaysIn, TabletsIn}
 use Rattle.lent.specs.Shape.{relaysUsed, tabletsUsed, relayShape, tabletShape, RelayEntries, TabletEntries}
 use Rattle.lent.specs.Placing.{placed, right}

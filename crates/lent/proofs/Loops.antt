@@ -1,12 +1,11 @@
 -- Laws that loops over places and arrays share.
 --   at-end                              a loop that counts up has come to its end
---   both-left, both-right               two tests
 --   all-step, all-more, all-false       one more place is tested
 --   all-at, all-of                      a test of every place, and of each
 --   stored                              what holds of an array after a store
 --   array-more, array-at, array-beyond  an array that is loaded from its start
 -- Assumes nothing.
-use mathlib.Core.Bool.{Bool, true, false, _&&_, and-false, false≢true}
+use mathlib.Core.Bool.{Bool, true, false, _&&_, and-false}
 use mathlib.Core.List.{List}
 use mathlib.Core.Logic.{_⊎_, inl, inr, ⊎-elim}
 use mathlib.Core.Path.{_≡_, refl, sym, ap, _∙_}
@@ -30,14 +29,6 @@ pub at-end : {A : Type 0} (f : ℕ → A) {i n : ℕ} {x : A} → i ≤ n → n 
 at-end f p q e = e ∙ ap f (le-antisymm p q)
 
 -- ---- a test of every place
-
-pub both-left : (a b : Bool) → (a && b) ≡ true → a ≡ true
-both-left true b e = refl
-both-left false b e = absurd (false≢true e)
-
-pub both-right : (a b : Bool) → (a && b) ≡ true → b ≡ true
-both-right true b e = e
-both-right false b e = absurd (false≢true e)
 
 module _ (f : ℕ → Bool) {i : ℕ} where
   pub all-step : {ok b r : Bool} → ok ≡ all f i → b ≡ f i → r ≡ (ok && b) → r ≡ all f (i + 1)

@@ -13,9 +13,10 @@ use native.Mathlib.Numerals.{add-one}
 use native.Mathlib.Omega.{arith}
 use borrow.Author.Tests.{ltb-true, leb-true, eqb-true, lt-ltb}
 use lib.Dec.{eqb, ltb, leb}
+use Rattle.ring.proofs.Tests.{and-left, and-right}
 use Rattle.lent.specs.Table.{mostRelays, relayPlaces, relayNumber, relayWhole, RelaysIn, mostTablets, tabletPlaces, tabletNumber, tabletWhole, TabletsIn}
 use Rattle.lent.specs.Shape.{all, used, previous, entryRight, unused, entryAt, unusedAt, shape, relaysUsed, tabletsUsed, relayFits, tabletFits, relayShape, tabletShape}
-use Rattle.lent.proofs.Loops.{both-left, both-right, all-step, all-at}
+use Rattle.lent.proofs.Loops.{all-step, all-at}
 
 module _ (number : ℕ → ℕ) where
   pub used-most : (i : ℕ) → used number i ≤ i
@@ -46,19 +47,19 @@ module _ (number : ℕ → ℕ) where
 module _ (top : ℕ) (number beside : ℕ → ℕ) (n places : ℕ) where
   pub shape-within : shape top number beside n places ≡ true → n ≤ places
   unfolding shape
-  shape-within e = leb-true n places (both-left (leb n places) (all (entryAt top number beside) n && all (unusedAt number beside n) (places - n)) e)
+  shape-within e = leb-true n places (and-left (leb n places) (all (entryAt top number beside) n && all (unusedAt number beside n) (places - n)) e)
 
   tests : shape top number beside n places ≡ true → (all (entryAt top number beside) n && all (unusedAt number beside n) (places - n)) ≡ true
   unfolding shape
-  tests e = both-right (leb n places) (all (entryAt top number beside) n && all (unusedAt number beside n) (places - n)) e
+  tests e = and-right (leb n places) (all (entryAt top number beside) n && all (unusedAt number beside n) (places - n)) e
 
   pub shape-entry : shape top number beside n places ≡ true → (i : ℕ) → i < n → (previous number i < number i) × (beside i ≤ top)
   unfolding entryAt entryRight
   shape-entry e i h =
       let k₁ : Bool = ltb (previous number i) (number i) in
       let k₂ : Bool = leb (beside i) top in
-      let t : (k₁ && k₂) ≡ true = all-at (entryAt top number beside) n i (both-left (all (entryAt top number beside) n) (all (unusedAt number beside n) (places - n)) (tests e)) h in
-      (ltb-true (previous number i) (number i) (both-left k₁ k₂ t), leb-true (beside i) top (both-right k₁ k₂ t))
+      let t : (k₁ && k₂) ≡ true = all-at (entryAt top number beside) n i (and-left (all (entryAt top number beside) n) (all (unusedAt number beside n) (places - n)) (tests e)) h in
+      (ltb-true (previous number i) (number i) (and-left k₁ k₂ t), leb-true (beside i) top (and-right k₁ k₂ t))
 
   pub shape-rest : shape top number beside n places ≡ true → (i : ℕ) → n ≤ i → i < places → (number i ≡ 0) × (beside i ≡ 0)
   unfolding unusedAt unused
@@ -70,8 +71,8 @@ module _ (top : ℕ) (number beside : ℕ → ℕ) (n places : ℕ) where
       here d k =
           let k₁ : Bool = eqb (number (n + d)) 0 in
           let k₂ : Bool = eqb (beside (n + d)) 0 in
-          let t : (k₁ && k₂) ≡ true = all-at (unusedAt number beside n) (places - n) d (both-right (all (entryAt top number beside) n) (all (unusedAt number beside n) (places - n)) (tests e)) k in
-          (eqb-true (number (n + d)) 0 (both-left k₁ k₂ t), eqb-true (beside (n + d)) 0 (both-right k₁ k₂ t))
+          let t : (k₁ && k₂) ≡ true = all-at (unusedAt number beside n) (places - n) d (and-right (all (entryAt top number beside) n) (all (unusedAt number beside n) (places - n)) (tests e)) k in
+          (eqb-true (number (n + d)) 0 (and-left k₁ k₂ t), eqb-true (beside (n + d)) 0 (and-right k₁ k₂ t))
 
   -- a table of that shape has as many places in use as entries
   pub shape-used : shape top number beside n places ≡ true → used number places ≡ n
@@ -95,11 +96,11 @@ module _ (top : ℕ) (number beside : ℕ → ℕ) (n places : ℕ) where
 pub relays-in : {rs : List ℕ} {n : ℕ} → n ≡ relaysUsed rs → relayShape rs n ≡ true → RelaysIn rs n
 unfolding relaysUsed relayShape relayFits
 relays-in {rs} {n} u e =
-    let few = leb-true (relayPlaces rs) mostRelays (both-right (relayWhole rs) _ (both-left _ _ e)) in
+    let few = leb-true (relayPlaces rs) mostRelays (and-right (relayWhole rs) _ (and-left _ _ e)) in
     record { few = omega (arith, used-most (relayNumber rs) (relayPlaces rs)); there = omega (arith, used-most (relayNumber rs) (relayPlaces rs)) }
 
 pub tablets-in : {ts : List ℕ} {m : ℕ} → m ≡ tabletsUsed ts → tabletShape ts m ≡ true → TabletsIn ts m
 unfolding tabletsUsed tabletShape tabletFits
 tablets-in {ts} {m} u e =
-    let few = leb-true (tabletPlaces ts) mostTablets (both-right (tabletWhole ts) _ (both-left _ _ e)) in
+    let few = leb-true (tabletPlaces ts) mostTablets (and-right (tabletWhole ts) _ (and-left _ _ e)) in
     record { few = omega (arith, used-most (tabletNumber ts) (tabletPlaces ts)); there = omega (arith, used-most (tabletNumber ts) (tabletPlaces ts)) }

@@ -5,6 +5,7 @@ use mathlib.Core.List.{List}
 use mathlib.Core.Path.{_≡_}
 use Prim.Native.Nat.{ℕ, zero, suc, _+_, _-_, _^_, _≤_, _<_}
 use lib.Dec.{eqb, ltb, leb}
+use Rattle.rule.specs.Rule.{mostLimit}
 use Rattle.lent.specs.Table.{mostRelays, relayPlaces, relayNumber, relayLimit, relayWhole, mostTablets, tabletPlaces, tabletNumber, tabletRelay, tabletWhole}
 
 -- f is true of every number below n
@@ -51,10 +52,6 @@ pub record Edge (number : ℕ → ℕ) (places low high : ℕ) : Type 0 where
 
 -- ---- the two tables
 
--- limits run from 0 to this
-abbrev pub topLimit : ℕ
-topLimit = 4096
-
 -- what stands beside a tablet may be any 32-bit number
 abbrev pub topNumber : ℕ
 topNumber = 2 ^ 32 - 1
@@ -74,7 +71,7 @@ tabletFits ts = tabletWhole ts && leb (tabletPlaces ts) mostTablets
 
 -- the table is as it must be, with n entries
 unfoldable pub relayShape : List ℕ → ℕ → Bool
-relayShape rs n = relayFits rs && shape topLimit (relayNumber rs) (relayLimit rs) n (relayPlaces rs)
+relayShape rs n = relayFits rs && shape mostLimit (relayNumber rs) (relayLimit rs) n (relayPlaces rs)
 
 unfoldable pub tabletShape : List ℕ → ℕ → Bool
 tabletShape ts m = tabletFits ts && shape topNumber (tabletNumber ts) (tabletRelay ts) m (tabletPlaces ts)

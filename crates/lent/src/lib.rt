@@ -4,15 +4,14 @@ ghost use mathlib.Core.Path.{_≡_};
 ghost use mathlib.Core.Bool.{_&&_};
 ghost use Prim.Native.Nat.{_+_, _-_, _*_, min, _<_, _≤_};
 ghost use Rattle.ring.specs.Scheme.{positions};
+ghost use Rattle.rule.specs.Rule.{mostLimit};
 ghost use Rattle.lent.specs.Table.{mostRelays, relayPlaces, relayNumber, relayLimit, relayWhole, RelaysIn, tabletPlaces, tabletNumber, tabletRelay, tabletWhole, TabletsIn};
-ghost use Rattle.lent.specs.Shape.{all, entryRight, unused, entryAt, unusedAt, Edge, topLimit, topNumber, relayFits, tabletFits, relayShape, tabletShape, RelayEntries, TabletEntries};
+ghost use Rattle.lent.specs.Shape.{all, entryRight, unused, entryAt, unusedAt, Edge, topNumber, relayFits, tabletFits, relayShape, tabletShape, RelayEntries, TabletEntries};
 ghost use Rattle.lent.specs.Placing.{relayPositions, relayLimits, keyFrom, openKey, firstWithRoom, placed};
 
 pub const MOST_RELAYS: usize = 256;
 
 pub const MOST_TABLETS: usize = 4096;
-
-pub const TOP_LIMIT: u32 = 4096;
 
 const TOP_NUMBER: u32 = 4294967295;
 
@@ -150,7 +149,7 @@ pub fn tablet_fits(tablets: &[u32]) -> bool
 // Are the first n places entries?
 fn relays_rise(relays: &[u32], n: usize) -> bool
     requires { ⌜ n ≤ relayPlaces (now relays) ⌝ }
-    ensures { λ r. ⌜ r ≡ all (entryAt topLimit (relayNumber (now (relays .entry))) (relayLimit (now (relays .entry)))) n ⌝ }
+    ensures { λ r. ⌜ r ≡ all (entryAt mostLimit (relayNumber (now (relays .entry))) (relayLimit (now (relays .entry)))) n ⌝ }
 {
     let mut ok = true;
     let mut before: u32 = 0;
@@ -158,7 +157,7 @@ fn relays_rise(relays: &[u32], n: usize) -> bool
     while i < n {
         let number = relay_number(relays, i).0;
         let limit = relay_limit(relays, i);
-        ok = both(ok, entry_right(TOP_LIMIT, before, number, limit));
+        ok = both(ok, entry_right(rule::MOST_LIMIT, before, number, limit));
         before = number;
         i += 1;
     }
@@ -312,7 +311,7 @@ pub fn key_from(from: ring::Position, to: ring::Position, i: usize) -> u64
     requires { ⌜ i < mostRelays ⌝ }
     ensures { λ r. ⌜ r ≡ keyFrom (from .0) (to .0) i ⌝ }
 {
-    (ring::distance(from, to) as u64) * 4294967296 + (i as u64)
+    (ring::clockwise(from, to) as u64) * 4294967296 + (i as u64)
 }
 
 // The same, above every key where the relay is full.

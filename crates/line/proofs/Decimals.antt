@@ -5,7 +5,7 @@
 --   grown-all                      the loop ends in the value of digits up to 4294967295, and in 4294967296 for all else
 --   decimal-empty, decimal-zero, decimal-is, decimal-not    what a word is
 -- Assumes nothing.
-use mathlib.Core.Bool.{Bool, true, false, _&&_, cond}
+use mathlib.Core.Bool.{Bool, true, false, _&&_, cond, and-false}
 use mathlib.Core.List.{List, [], _∷_}
 use mathlib.Core.Path.{_≡_, refl, sym, ap, _∙_}
 use Prim.Native.Nat.{ℕ, _+_, _*_, _-_, _≤_, _<_}
@@ -15,7 +15,7 @@ use borrow.Author.Tests.{ltb-true, ltb-false, leb-true, leb-false, lt-ltb, lt-le
 use lib.Dec.{eqb, ltb, leb}
 use lib.ListN.{length, getD, drop}
 use lib.Seq.{drop-cons}
-use Rattle.ring.proofs.Tests.{split, and-left, and-right, and-false}
+use Rattle.ring.proofs.Tests.{split, and-left, and-right}
 use Rattle.line.specs.declared.Number.the-variants.{Is, Not}
 use Rattle.line.specs.Decimal.{digit, allDigits, value, leadingZero, plain, decimalOf, grown, grownAll}
 

@@ -1,7 +1,7 @@
 -- A line that means something is short, so its first bytes say what it means.
 --   meaning-first, scheme-first    a line means what its first 24 bytes mean
 -- Assumes nothing.
-use mathlib.Core.Bool.{true, false}
+use mathlib.Core.Bool.{true, false, and-false}
 use mathlib.Core.List.{List, [], _∷_}
 use mathlib.Core.Path.{_≡_, refl, sym, ap, _∙_}
 use Prim.Native.Nat.{ℕ, zero, suc, _+_, _*_, _-_, _≤_, _<_}
@@ -10,7 +10,7 @@ use borrow.Author.Tests.{eqb-false, ltb-true, ltb-false, lt-leb}
 use lib.Dec.{eqb, ltb}
 use lib.ListN.{length, take, length-take}
 use lib.Seq.{take-all}
-use Rattle.ring.proofs.Tests.{split, and-left, and-false}
+use Rattle.ring.proofs.Tests.{split, and-left}
 use Rattle.line.specs.declared.Number.{Number}
 use Rattle.line.specs.declared.Number.the-variants.{Not}
 use Rattle.line.specs.declared.Line.the-variants as line

@@ -4,7 +4,7 @@
 --   said-one, said-two, rest-one, rest-two    a letter with what stands behind it
 --   meaning-short, meaning-unspaced, meaning-spaced    what a line means, by its first two bytes
 -- Assumes nothing.
-use mathlib.Core.Bool.{false}
+use mathlib.Core.Bool.{false, and-false}
 use mathlib.Core.List.{List, [], _∷_}
 use mathlib.Core.Path.{_≡_, refl, sym, ap, _∙_}
 use Prim.Native.Nat.{ℕ, suc, _+_, _-_, _≤_, _<_}
@@ -16,7 +16,7 @@ use lib.Dec.{eqb, ltb}
 use lib.ListN.{length, getD, take, drop, length-drop}
 use lib.Seq.{take-all, take-length}
 use Rattle.bytes.specs.Bytes.{indexOf, indexAfter, slice}
-use Rattle.ring.proofs.Tests.{split, and-false}
+use Rattle.ring.proofs.Tests.{split}
 use Rattle.line.specs.declared.Number.{Number}
 use Rattle.line.specs.declared.Number.the-variants.{Is, Not}
 use Rattle.line.specs.declared.Line.the-variants.{Other}

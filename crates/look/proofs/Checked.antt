@@ -7,8 +7,9 @@ use native.Mathlib.Omega.{arith}
 use lib.ListN.{getD}
 use mir.Val.{Fits}
 use mir.Syntax.{w32}
+use borrow.Author.Tests.{not-true, not-false}
 use Rattle.ring.specs.Scheme.{known, positions}
-use Rattle.ring.proofs.Tests.{split, not-false, true-false}
+use Rattle.ring.proofs.Tests.{split, true-false}
 use Rattle.rule.specs.declared.Refusal.{Refusal}
 use Rattle.rule.specs.declared.Refusal.the-variants.{Done, SchemeUnknown, TablesNotRight}
 use Rattle.rule.specs.Refusals.{isDone, firstBar}
@@ -21,13 +22,6 @@ use Rattle.meaning.specs.Meaning.{Words}
 use Rattle.look.specs.declared.First.{First}
 use Rattle.look.specs.Start.{checked, verdict, Passed, FirstLook, Looks}
 
-pub not-true : {b : Bool} → not b ≡ true → b ≡ false
-not-true {b} e = go b e
-  where
-    go : (b : Bool) → not b ≡ true → b ≡ false
-    go true e = sym e
-    go false e = refl
-
 -- every number that was read is a word
 pub words-of : (l : List ℕ) → ((i : ℕ) → Fits w32 (getD l i 0)) → Words l
 words-of l f = record { fit = λ i. f i .fits }
@@ -35,7 +29,7 @@ words-of l f = record { fit = λ i. f i .fits }
 module _ (s : ℕ) (rs ts : List ℕ) where
   pub unknown-refused : {k : Bool} → k ≡ known s → not k ≡ true → checked s rs ts ≡ SchemeUnknown
   unfolding checked firstBar
-  unknown-refused e h = rw (sym e ∙ not-true h)
+  unknown-refused e h = rw (sym e ∙ not-true _ h)
 
   pub wrong-refused : {k : Bool} → k ≡ known s → not k ≡ false → right (positions s) rs ts ≡ false → checked s rs ts ≡ TablesNotRight
   unfolding checked firstBar

@@ -13,9 +13,9 @@ use lib.ListN.{length}
 use Rattle.ring.specs.Scheme.{positions}
 use Rattle.ring.proofs.Tests.{and-left, and-right}
 use Rattle.rule.specs.Entry.{Entry}
-use Rattle.rule.specs.Rule.{Ring}
+use Rattle.rule.specs.Rule.{Ring, mostLimit}
 use Rattle.lent.specs.Table.{mostRelays, relayPlaces, relayNumber, relayLimit, relayWhole, mostTablets, tabletPlaces, tabletNumber, tabletRelay, tabletWhole}
-use Rattle.lent.specs.Shape.{topLimit, topNumber, shape, relaysUsed, tabletsUsed, relayFits, tabletFits, relayShape, tabletShape}
+use Rattle.lent.specs.Shape.{topNumber, shape, relaysUsed, tabletsUsed, relayFits, tabletFits, relayShape, tabletShape}
 use Rattle.lent.specs.Placing.{placed, right}
 use Rattle.survey.specs.declared.Survey.{Survey}
 use Rattle.meaning.specs.Meaning.{relaysIn, tabletsIn}
@@ -34,7 +34,7 @@ module _ {s : ℕ} {rs ts : List ℕ} {n m : ℕ} {v : Survey} (b : Start s rs t
   unfolding right relayShape tabletShape relayFits tabletFits
   shapes =
       let k₁ : Bool = relayFits rs in
-      let k₂ : Bool = shape topLimit (relayNumber rs) (relayLimit rs) (relaysUsed rs) (relayPlaces rs) in
+      let k₂ : Bool = shape mostLimit (relayNumber rs) (relayLimit rs) (relaysUsed rs) (relayPlaces rs) in
       let k₃ : Bool = tabletFits ts in
       let k₄ : Bool = shape topNumber (tabletNumber ts) (tabletRelay ts) (tabletsUsed ts) (tabletPlaces ts) in
       let k₅ : Bool = placed (positions s) rs ts (relaysUsed rs) (tabletsUsed ts) in

@@ -6,7 +6,7 @@ use mathlib.Core.Bool.{Bool, true, false, not}
 use mathlib.Core.Path.{_≡_, sym, _∙_}
 use mathlib.Core.List.{List}
 use Prim.Native.Nat.{ℕ}
-use Rattle.ring.proofs.Tests.{not-false}
+use borrow.Author.Tests.{not-true, not-false}
 use Rattle.rule.specs.declared.Call.{Call}
 use Rattle.rule.specs.declared.Reply.{Reply}
 use Rattle.rule.specs.Refusals.{isDone, refusedBy}
@@ -14,7 +14,6 @@ use Rattle.meaning.specs.Meaning.{Words}
 use Rattle.look.specs.declared.Looked.{Looked}
 use Rattle.look.specs.Promise.{after, Answers}
 use Rattle.look.specs.Start.{Start, Looks}
-use Rattle.look.proofs.Checked.{not-true}
 use Rattle.look.proofs.Refusing.{look-refused, refused-answers}
 
 module _ {s : ℕ} {rs ts : List ℕ} {l : Looked} (k : Looks s rs ts l) {done : Bool} (e : done ≡ isDone (l .refusal)) where
@@ -24,5 +23,5 @@ module _ {s : ℕ} {rs ts : List ℕ} {l : Looked} (k : Looks s rs ts l) {done :
   pub look-answers : Words rs → Words ts → not done ≡ true → {reply : Reply} → reply ≡ refusedBy (l .refusal) → (c : Call) (ms : List ℕ)
       → Answers (after s rs ts ms c) reply rs ts ms
   look-answers wr wt h {reply} er c ms =
-      let no : isDone (l .refusal) ≡ false = sym e ∙ not-true h in
+      let no : isDone (l .refusal) ≡ false = sym e ∙ not-true _ h in
       refused-answers s rs ts ms c (l .refusal) (look-refused s rs ts ms c wr wt (l .refusal) (sym (k .refusal)) no) no reply er

@@ -21,7 +21,7 @@ use Rattle.rule.specs.Rule.{mostLimit}
 use Rattle.rule.proofs.Right as Right
 use Rattle.rule.proofs.Right.{Table}
 use Rattle.lent.specs.Table.{mostRelays, relayPlaces, relayNumber, relayLimit, relayWhole, RelaysIn, mostTablets, tabletPlaces, tabletNumber, tabletRelay, tabletWhole, TabletsIn}
-use Rattle.lent.specs.Shape.{topLimit, topNumber, relaysUsed, tabletsUsed, relayFits, tabletFits, relayShape, tabletShape, shape}
+use Rattle.lent.specs.Shape.{topNumber, relaysUsed, tabletsUsed, relayFits, tabletFits, relayShape, tabletShape, shape}
 use Rattle.lent.specs.Placing as Lent
 use Rattle.lent.proofs.Shape.{used-most}
 use Rattle.meaning.specs.Meaning.{relaysIn, tabletsIn, ringOf, restUnused, fitTables, Words}
@@ -50,7 +50,7 @@ pub record Rises (p : Positions) (rs ts : List ℕ) (n m : ℕ) : Type 0 where
 record Facts (p : Positions) (rs ts : List ℕ) (n m : ℕ) : Type 0 where
   pub relaysFit : relayFits rs ≡ true
   pub tabletsFit : tabletFits ts ≡ true
-  pub relays : Shaped topLimit (relayNumber rs) (relayLimit rs) n (relayPlaces rs)
+  pub relays : Shaped mostLimit (relayNumber rs) (relayLimit rs) n (relayPlaces rs)
   pub tablets : Shaped topNumber (tabletNumber ts) (tabletRelay ts) m (tabletPlaces ts)
   pub ruled : Ruled p rs ts n m
 
@@ -98,7 +98,7 @@ module _ (p : Positions) (rs ts : List ℕ) where
       rw (
         f .relaysFit,
         f .tabletsFit,
-        shape-from topLimit (relayNumber rs) (relayLimit rs) n (relayPlaces rs) n-most (f .relays),
+        shape-from mostLimit (relayNumber rs) (relayLimit rs) n (relayPlaces rs) n-most (f .relays),
         shape-from topNumber (tabletNumber ts) (tabletRelay ts) m (tabletPlaces ts) m-most (f .tablets),
       )
       (placed-from p rs ts n m (facts-few f) (f .relays .numbers) (f .tablets .numbers) (f .ruled))
@@ -152,15 +152,15 @@ module _ (p : Positions) (rs ts : List ℕ) where
     unfolding Lent.right relayShape tabletShape
     lent-facts e =
         let k₁ : Bool = relayFits rs in
-        let k₂ : Bool = shape topLimit (relayNumber rs) (relayLimit rs) n (relayPlaces rs) in
+        let k₂ : Bool = shape mostLimit (relayNumber rs) (relayLimit rs) n (relayPlaces rs) in
         let k₃ : Bool = tabletFits ts in
         let k₄ : Bool = shape topNumber (tabletNumber ts) (tabletRelay ts) m (tabletPlaces ts) in
         let k₅ : Bool = Lent.placed p rs ts n m in
         let r : (k₁ && k₂) ≡ true = and-left (k₁ && k₂) ((k₃ && k₄) && k₅) e in
         let e₁ : ((k₃ && k₄) && k₅) ≡ true = and-right (k₁ && k₂) ((k₃ && k₄) && k₅) e in
         let t : (k₃ && k₄) ≡ true = and-left (k₃ && k₄) k₅ e₁ in
-        let sr : Shaped topLimit (relayNumber rs) (relayLimit rs) n (relayPlaces rs) =
-        shape-is topLimit (relayNumber rs) (relayLimit rs) n (relayPlaces rs) (relay-number-word wr) (and-right k₁ k₂ r) in
+        let sr : Shaped mostLimit (relayNumber rs) (relayLimit rs) n (relayPlaces rs) =
+        shape-is mostLimit (relayNumber rs) (relayLimit rs) n (relayPlaces rs) (relay-number-word wr) (and-right k₁ k₂ r) in
         let fr : k₁ ≡ true = and-left k₁ k₂ r in
         record {
           relaysFit = fr;

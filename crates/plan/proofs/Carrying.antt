@@ -19,7 +19,7 @@ use Rattle.lent.proofs.Loops.{eq-or-ne}
 use Rattle.meaning.proofs.Places.{places-ext}
 use Rattle.write.specs.Tables.{listed}
 use Rattle.write.specs.Places.{SetBeside}
-use Rattle.write.specs.Listing.{moveAt}
+use Rattle.write.specs.Listing.{setMove}
 use Rattle.write.proofs.Listed.{listed-none, listed-more, length-listed}
 use Rattle.plan.specs.Changes.{changes, newRelay, changesTo}
 use Rattle.plan.specs.Carried.{Moves, Moved, Carries, Carried}
@@ -38,7 +38,7 @@ module _ {rs ts ms : List ℕ} {i j c o n : ℕ} (eo : o ≡ tabletRelay ts j) (
     count = picks-same _ _ eo en e;
   }
 
-  pub moved-made : {ts′ ms′ : List ℕ} {t : ℕ} → t ≡ tabletNumber ts j → (o ≡ n → ⊥) → ms′ ≡ moveAt ms c t o n → SetBeside tabletNumber tabletRelay ts ts′ j n
+  pub moved-made : {ts′ ms′ : List ℕ} {t : ℕ} → t ≡ tabletNumber ts j → (o ≡ n → ⊥) → ms′ ≡ setMove ms c t o n → SetBeside tabletNumber tabletRelay ts ts′ j n
       → Moved rs ts ts′ ms ms′ i j c (c + 1)
   moved-made et h em s = record {
     tablets = rw (← en) s;

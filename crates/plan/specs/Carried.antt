@@ -10,9 +10,9 @@ use Rattle.meaning.specs.Meaning.{places}
 use Rattle.write.specs.Tables.{listed}
 use Rattle.write.specs.Wrote.{WroteTablets}
 use Rattle.write.specs.Places.{SetBeside}
-use Rattle.write.specs.Listing.{moveAt}
+use Rattle.write.specs.Listing.{setMove}
 use Rattle.plan.specs.Changes.{newRelay, changesTo}
-use Rattle.plan.specs.Plan.{Seated}
+use Rattle.plan.specs.Plan.{Assigned}
 
 -- there is room in the list for the move of the tablet at place j, the c-th, where it is to have another relay
 pub record Moves (rs ts ms : List ℕ) (i j c : ℕ) : Type 0 where
@@ -23,11 +23,11 @@ pub record Moves (rs ts ms : List ℕ) (i j c : ℕ) : Type 0 where
 -- the tablet at place j has the relay at place i; where that is another than before it is listed
 pub record Moved (rs ts ts′ ms ms′ : List ℕ) (i j c c′ : ℕ) : Type 0 where
   pub tablets : SetBeside tabletNumber tabletRelay ts ts′ j (relayNumber rs i)
-  pub list : ms′ ≡ cond (eqb (tabletRelay ts j) (relayNumber rs i)) ms (moveAt ms c (tabletNumber ts j) (tabletRelay ts j) (relayNumber rs i))
+  pub list : ms′ ≡ cond (eqb (tabletRelay ts j) (relayNumber rs i)) ms (setMove ms c (tabletNumber ts j) (tabletRelay ts j) (relayNumber rs i))
   pub count : c′ ≡ cond (eqb (tabletRelay ts j) (relayNumber rs i)) c (c + 1)
 
 pub record Carries (rs relay ts ms : List ℕ) (m : ℕ) : Type 0 where
-  pub seated : Seated rs relay ts m
+  pub seated : Assigned rs relay ts m
   pub room : 3 * length (changesTo rs relay ts m) ≤ length ms
 
 pub record Carried (rs relay ts ts′ ms ms′ : List ℕ) (m c : ℕ) : Type 0 where

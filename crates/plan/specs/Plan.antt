@@ -33,7 +33,7 @@ pub record Plans (rs ts : List ℕ) (n m : ℕ) (keys home : List ℕ) : Type 0 
   pub homes : Homes positions rs ts n m keys home
 
 -- each of the first m tablets has a place among the relays
-pub record Seated (rs relay ts : List ℕ) (m : ℕ) : Type 0 where
+pub record Assigned (rs relay ts : List ℕ) (m : ℕ) : Type 0 where
   pub tablets : TabletsIn ts m
   pub relays : (j : ℕ) → j < m → getD relay j 0 < relayPlaces rs
 

@@ -11,25 +11,13 @@ ghost use Rattle.lent.specs.Table.{relayPlaces, mostTablets, tabletPlaces, tabl
 ghost use Rattle.meaning.specs.Meaning.{relaysIn};
 ghost use Rattle.homes.specs.Homes.{Homes};
 ghost use Rattle.plan.specs.Changes.{newRelay, changesTo};
-ghost use Rattle.plan.specs.Plan.{Limited, Plans, Seated, Planned};
+ghost use Rattle.plan.specs.Plan.{Limited, Plans, Assigned, Planned};
 ghost use Rattle.plan.specs.Carried.{Moves, Moved, Carries, Carried};
 
 // A refusal; or for each tablet the place of its relay.
 pub struct Plan {
     pub refusal: rule::Refusal,
     pub relay: [u8; 4096],
-}
-
-fn from_u8(x: u8) -> usize
-    ensures { λ r. ⌜ r ≡ x ⌝ }
-{
-    x as usize
-}
-
-fn from_u32(x: u32) -> usize
-    ensures { λ r. ⌜ r ≡ x ⌝ }
-{
-    x as usize
 }
 
 // ---- whether the limits suffice
@@ -42,7 +30,7 @@ fn limit_sum(relays: &[u32], n: usize) -> usize
     let mut sum: usize = 0;
     let mut i: usize = 0;
     while i < n {
-        sum += from_u32(lent::relay_limit(relays, i));
+        sum += ring::from_u32(lent::relay_limit(relays, i));
         i += 1;
     }
     sum
@@ -55,14 +43,14 @@ fn one_if_moves(relays: &[u32], relay: &[u8; 4096], tablets: &[u32], j: usize) -
     requires { ⌜ (j < mostTablets) × (j < tabletPlaces (now tablets)) × (getD (now relay) j 0 < relayPlaces (now relays)) ⌝ }
     ensures { λ r. ⌜ r ≡ cond (eqb (tabletRelay (now (tablets .entry)) j) (newRelay (now (relays .entry)) (now (relay .entry)) j)) 0 1 ⌝ }
 {
-    let i = from_u8(relay[j]);
+    let i = ring::from_u8(relay[j]);
     let new = lent::relay_number(relays, i);
     let old = lent::tablet_relay(tablets, j);
     if old.0 == new.0 { 0 } else { 1 }
 }
 
 fn count_moves(relays: &[u32], relay: &[u8; 4096], tablets: &[u32], m: usize) -> usize
-    requires { ⌜ Seated (now relays) (now relay) (now tablets) m ⌝ }
+    requires { ⌜ Assigned (now relays) (now relay) (now tablets) m ⌝ }
     ensures { λ r. ⌜ r ≡ length (changesTo (now (relays .entry)) (now (relay .entry)) (now (tablets .entry)) m) ⌝ }
 {
     let mut c: usize = 0;
@@ -76,7 +64,7 @@ fn count_moves(relays: &[u32], relay: &[u8; 4096], tablets: &[u32], m: usize) ->
 
 // Is there room for the moves in a list of so many places? No more tablets move than there are.
 fn moves_fit(relays: &[u32], relay: &[u8; 4096], tablets: &[u32], m: usize, places: usize) -> bool
-    requires { ⌜ Seated (now relays) (now relay) (now tablets) m ⌝ }
+    requires { ⌜ Assigned (now relays) (now relay) (now tablets) m ⌝ }
     ensures { λ b. ⌜ b ≡ leb (length (changesTo (now (relays .entry)) (now (relay .entry)) (now (tablets .entry)) m)) places ⌝ }
 {
     if m <= places {
@@ -163,7 +151,7 @@ pub fn carry_out(
     let mut c: usize = 0;
     let mut j: usize = 0;
     while j < m {
-        let i = from_u8(relay[j]);
+        let i = ring::from_u8(relay[j]);
         c = move_one(relays, tablets, moves, i, j, c);
         j += 1;
     }

@@ -1,17 +1,9 @@
 // Every tablet placed afresh (document 01, "The rule of placement"): the relay that the rule gives each, whatever relay is written beside it.
 ghost use mathlib.Core.List.{List};
 ghost use Prim.Native.Nat.{ℕ, _<_};
-ghost use mathlib.Core.Path.{_≡_};
 ghost use Rattle.ring.specs.Scheme.{Positions};
-ghost use Rattle.lent.specs.Table.{mostRelays};
 ghost use Rattle.homes.specs.Homes.{Homes};
 ghost use Rattle.refill.specs.Refilled.{Refills, Refilled};
-
-fn from_u8(x: u8) -> usize
-    ensures { λ r. ⌜ (r ≡ x) × (r < mostRelays) ⌝ }
-{
-    x as usize
-}
 
 // For each of the m tablets the place of its relay among the n relays, from the relays in ring order and the tablets' homes.
 pub fn refill(
@@ -29,7 +21,7 @@ pub fn refill(
     let mut relay = [0u8; 4096];
     let mut j: usize = 0;
     while j < m {
-        let h = from_u8(home[j]);
+        let h = ring::from_u8(home[j]);
         let k = survey::led_to(&next, h);
         relay[j] = order::slot_relay(keys, k) as u8;
         survey::take(keys, &mut room, &mut next, n, k);

@@ -10,12 +10,12 @@ use mathlib.Core.List.{List, []}
 use mathlib.Core.Path.{_≡_, refl, sym, ap, ap₂, _∙_}
 use Prim.Native.Nat.{ℕ, _/_, _%_, _≤_}
 use native.Mathlib.Omega.{arith}
-use borrow.Author.Tests.{eqb-true, ltb-true, ltb-false}
+use borrow.Author.Tests.{eqb-true, ltb-true, ltb-false, not-true, not-false}
 use lib.Dec.{ltb}
 use lib.ListN.{length}
 use Rattle.ring.specs.Scheme.{Positions, positions}
 use Rattle.ring.specs.Clockwise.{key}
-use Rattle.ring.proofs.Tests.{split, not-false, true-false}
+use Rattle.ring.proofs.Tests.{split, true-false}
 use Rattle.rule.specs.declared.Refusal.{Refusal}
 use Rattle.rule.specs.declared.Refusal.the-variants.{Done}
 use Rattle.rule.specs.declared.Call.{Call}
@@ -37,7 +37,6 @@ use Rattle.meaning.proofs.Run.{run-fill}
 use Rattle.write.specs.Tables.{flat, filled, relayTable, tabletTable, listed}
 use Rattle.write.proofs.Filled.{length-flat, tablets-table}
 use Rattle.look.specs.Promise.{after, Answers}
-use Rattle.look.proofs.Checked.{not-true}
 use Rattle.look.proofs.Stays.{relays-whole, relays-few, tablets-whole, tablets-zeros}
 use Rattle.look.proofs.Refusing.{start-rises, start-ring, limits-refused, list-refused, all-passed, refused-answers, accepted-answers}
 use Rattle.homes.specs.declared.Around.{Around}
@@ -58,7 +57,7 @@ use Rattle.relay_calls.proofs.Replacing.{filled-replaced}
 pub edit-refused : {s : ℕ} {rs ts : List ℕ} (ms : List ℕ) {c : Call} {x : ℕ} {e : Edit} {d : Bool} {reply : Reply} → Edits s rs ts c x e → d ≡ isDone (e .refusal) → not d ≡ true
     → reply ≡ refusedBy (e .refusal) → Answers (after s rs ts ms c) reply rs ts ms
 edit-refused {s} {rs} {ts} ms {c} {e = e} {reply = reply} o ed h er =
-    let n : isDone (e .refusal) ≡ false = sym ed ∙ not-true h in
+    let n : isDone (e .refusal) ≡ false = sym ed ∙ not-true _ h in
     refused-answers s rs ts ms c (e .refusal) (o .refused n ms) n reply er
 
 -- ---- past them
@@ -165,7 +164,7 @@ module _ {s : ℕ} {rs ts : List ℕ} {c : Call} {n m : ℕ} {own : List ℕ} {a
 
       pub plan-refused : {d : Bool} {reply : Reply} → d ≡ isDone (r .refusal) → not d ≡ true → reply ≡ refusedBy (r .refusal) → Answers (after s rs ts ms c) reply rs ts ms
       plan-refused {reply = reply} ed h er =
-          let z : isDone (r .refusal) ≡ false = sym ed ∙ not-true h in
+          let z : isDone (r .refusal) ≡ false = sym ed ∙ not-true _ h in
           refused-answers s rs ts ms c (r .refusal) (plan-why z) z reply er
 
     -- ---- the plan carried out

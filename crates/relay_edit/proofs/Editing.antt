@@ -9,12 +9,12 @@ use mathlib.Core.Bool.{Bool, true, false, not}
 use mathlib.Core.List.{List, [], _∷_}
 use mathlib.Core.Path.{_≡_, refl, sym, ap, ap₂, _∙_}
 use Prim.Native.Nat.{ℕ, _+_, _-_, _^_, _≤_, _<_}
-use borrow.Author.Tests.{leb-false}
+use borrow.Author.Tests.{leb-false, not-true, not-false}
 use lib.Dec.{eqb, ltb, leb}
 use native.Mathlib.Omega.{arith}
 use Rattle.ring.specs.Scheme.{positions}
 use Rattle.ring.specs.declared.RelayNumber.{RelayNumber}
-use Rattle.ring.proofs.Tests.{not-false, true-false}
+use Rattle.ring.proofs.Tests.{true-false}
 use Rattle.rule.specs.declared.Refusal.{Refusal}
 use Rattle.rule.specs.declared.Refusal.the-variants.{NumberZero, TooLarge, NotThere, ThereAlready, NoUnusedPlace}
 use Rattle.rule.specs.declared.Call.{Call}
@@ -32,7 +32,6 @@ use Rattle.spot.specs.Spot.{missing}
 use Rattle.spot.proofs.There.{missing-there}
 use Rattle.homes.specs.declared.Around.{Around}
 use Rattle.homes.specs.Homes.{Homes, TakenOut, PutsIn, PutIn}
-use Rattle.look.proofs.Checked.{not-true}
 use Rattle.look.proofs.Stays.{relays-few}
 use Rattle.look.proofs.Refusing.{look-refused, number-refused}
 use Rattle.relay_edit.specs.declared.Found.{Found}
@@ -72,7 +71,7 @@ refused-edit a n e h = record {
 module _ {s : ℕ} {rs ts : List ℕ} {x : ℕ} {f : Found} (found : Finds s rs ts x f) {d : Bool} (ed : d ≡ isDone (f .refusal)) where
   pub found-refused : {c : Call} {e : Edit} → not d ≡ true → About c x → e .refusal ≡ f .refusal → Edits s rs ts c x e
   found-refused {c} h a e =
-      let n : isDone (f .refusal) ≡ false = sym ed ∙ not-true h in
+      let n : isDone (f .refusal) ≡ false = sym ed ∙ not-true _ h in
       refused-edit a n e (λ ms. look-refused s rs ts ms c (found .relayWords) (found .tabletWords) (f .refusal) (sym (found .refusal)) n)
 
   pub found-stands : not d ≡ false → Stands s rs ts x (f .n) (f .m) (f .at) (f .there) (f .around)
@@ -84,7 +83,7 @@ module _ {s : ℕ} {rs ts : List ℕ} {x n m at : ℕ} {there : Bool} {around : 
   module _ {c : Call} (a : About c x) {w : Refusal} (why : (ms : List ℕ) → firstBar (wrongNumbers (lentOf s rs ts ms) (ringOf rs ts) c) ≡ w) {d : Bool} (ed : d ≡ isDone w) {e : Edit} (ee : e .refusal ≡ w) where
     numbers-refused : not d ≡ true → Edits s rs ts c x e
     numbers-refused h =
-        let z : isDone w ≡ false = sym ed ∙ not-true h in
+        let z : isDone w ≡ false = sym ed ∙ not-true _ h in
         refused-edit a z ee (λ ms. number-refused s rs ts ms c (stands .start) w (why ms) z)
 
     numbers-passed : not d ≡ false → subject c < 2 ^ 32 → m ≡ e .m → Written rs ts c (e .n) (e .relays)

@@ -20,7 +20,7 @@ use Rattle.meaning.proofs.Words.{tablet-number-word}
 use Rattle.meaning.proofs.Right.{Rises}
 use Rattle.write.specs.Wrote.{WroteRelays, Place}
 use Rattle.write.specs.Places.{SetBeside, TookOut}
-use Rattle.seat.proofs.Positions.{position-small}
+use Rattle.ring.proofs.Positions.{position-small}
 use Rattle.homes.specs.declared.Around.{Around}
 use Rattle.homes.specs.Shift.{skip}
 use Rattle.homes.specs.Homes.{Homes, TakenOut, PutsIn, PutIn}

@@ -71,7 +71,7 @@ fn find_relay(scheme: u32, relays: &[u32], tablets: &[u32], r: ring::RelayNumber
 fn too_large(limit: u32) -> bool
     ensures { λ b. ⌜ b ≡ ltb mostLimit limit ⌝ }
 {
-    lent::TOP_LIMIT < limit
+    rule::MOST_LIMIT < limit
 }
 
 fn add_refusal(r: ring::RelayNumber, limit: u32, there: bool, full: bool) -> rule::Refusal

@@ -1,10 +1,10 @@
-// The ring (document 01, "The ring"): three kinds of number, the schemes, positions, and the clockwise order.
+// The ring (document 01, "The ring"): three kinds of number, the schemes, positions, and the distance clockwise.
 ghost use mathlib.Core.Path.{_≡_};
 ghost use mathlib.Core.List.{_∷_};
-ghost use Prim.Native.Nat.{_+_, _*_, _^_};
+ghost use Prim.Native.Nat.{_<_, _^_};
 ghost use Rattle.ring.specs.Fnv.{mixed, fnv, fourBytes};
-ghost use Rattle.ring.specs.Scheme.{known, position, positions, relayTag, tabletTag};
-ghost use Rattle.ring.specs.Clockwise.{clockwise, sooner, key};
+ghost use Rattle.ring.specs.Scheme.{known, position, positions};
+ghost use Rattle.ring.specs.Clockwise.{clockwise};
 
 pub struct TabletNumber(pub u32);
 
@@ -84,29 +84,29 @@ pub fn tablet_at(scheme: u32, t: TabletNumber) -> Position
     place(scheme, TABLET_TAG, t.0)
 }
 
-// The distance clockwise, past the top of the ring too.
-pub fn distance(one: Position, other: Position) -> u32
+// How far the other position is clockwise from the one, past the top of the ring too.
+pub fn clockwise(one: Position, other: Position) -> u32
     ensures { λ d. ⌜ d ≡ clockwise (one .0) (other .0) ⌝ }
 {
     std::num::wrapping_sub_u32(other.0, one.0)
 }
 
-// A relay's place in the clockwise order, as one number: by its distance, equal distances by its number.
-pub fn order_key(distance: u32, r: RelayNumber) -> u64
-    ensures { λ k. ⌜ k ≡ distance * 2 ^ 32 + r .0 ⌝ }
+// ---- small numbers as indices
+
+pub fn from_u8(x: u8) -> usize
+    ensures { λ r. ⌜ (r ≡ x) × (r < 2 ^ 8) ⌝ }
 {
-    (distance as u64) * 4294967296 + (r.0 as u64)
+    x as usize
 }
 
-// Does relay r stand ahead of relay q in the clockwise order of tablet t?
-pub fn stands_ahead(scheme: u32, t: TabletNumber, r: RelayNumber, q: RelayNumber) -> bool
-    ensures { λ b. ⌜ b ≡ sooner (positions scheme) (t .0) (r .0) (q .0) ⌝ }
+pub fn from_u16(x: u16) -> usize
+    ensures { λ r. ⌜ (r ≡ x) × (r < 2 ^ 16) ⌝ }
 {
-    let from = tablet_at(scheme, t);
-    let to_r = distance(from, relay_at(scheme, r));
-    let to_q = distance(from, relay_at(scheme, q));
-    if to_r < to_q {
-        return true;
-    }
-    if to_r == to_q { r.0 < q.0 } else { false }
+    x as usize
+}
+
+pub fn from_u32(x: u32) -> usize
+    ensures { λ r. ⌜ (r ≡ x) × (r < 2 ^ 32) ⌝ }
+{
+    x as usize
 }

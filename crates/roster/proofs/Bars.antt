@@ -12,7 +12,7 @@ use Rattle.rule.specs.Refusals.{firstBar}
 use Rattle.lent.specs.Table.{relayPlaces, tabletPlaces}
 use Rattle.lent.specs.Shape.{relayFits, tabletFits}
 use Rattle.roster.specs.Content.{tablesFit}
-use Rattle.roster.specs.Inner.{barred}
+use Rattle.roster.specs.Inner.{earlyRefusal}
 
 -- ---- the lent tables
 
@@ -38,20 +38,20 @@ module _ (n m : ℕ) (rs ts : List ℕ) {a : Bool} (ea : a ≡ relayFits rs) whe
 -- ---- the refusals
 
 module _ (shape : Bool) (s n m : ℕ) (rs ts : List ℕ) where
-  pub shape-barred : not shape ≡ true → RosterShapeWrong ≡ barred shape s n m rs ts
-  unfolding barred firstBar
+  pub shape-barred : not shape ≡ true → RosterShapeWrong ≡ earlyRefusal shape s n m rs ts
+  unfolding earlyRefusal firstBar
   shape-barred h = rw h
 
   module _ (right : not shape ≡ false) {k : Bool} (ek : k ≡ known s) where
-    pub scheme-barred : not k ≡ true → SchemeUnknown ≡ barred shape s n m rs ts
-    unfolding barred firstBar
+    pub scheme-barred : not k ≡ true → SchemeUnknown ≡ earlyRefusal shape s n m rs ts
+    unfolding earlyRefusal firstBar
     scheme-barred h = rw (right, ← ek, h)
 
     module _ (hk : not k ≡ false) {f : Bool} (ef : f ≡ tablesFit n m rs ts) where
-      pub fit-barred : not f ≡ true → OutputUnfit ≡ barred shape s n m rs ts
-      unfolding barred firstBar
+      pub fit-barred : not f ≡ true → OutputUnfit ≡ earlyRefusal shape s n m rs ts
+      unfolding earlyRefusal firstBar
       fit-barred h = rw (right, ← ek, hk, ← ef, h)
 
-      pub none-barred : not f ≡ false → Done ≡ barred shape s n m rs ts
-      unfolding barred firstBar
+      pub none-barred : not f ≡ false → Done ≡ earlyRefusal shape s n m rs ts
+      unfolding earlyRefusal firstBar
       none-barred h = rw (right, ← ek, hk, ← ef, h)

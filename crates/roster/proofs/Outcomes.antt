@@ -27,7 +27,7 @@ use Rattle.layout.proofs.Rows.{block-length}
 use Rattle.roster.specs.declared.Reading.{Reading}
 use Rattle.roster.specs.Content.{contentRight, tablesFit}
 use Rattle.roster.specs.Reading.{refusal, taken, unchanged, settled, after, refusedReading, Answers}
-use Rattle.roster.specs.Inner.{barred, fullTables, Room, TakenOver}
+use Rattle.roster.specs.Inner.{earlyRefusal, fullTables, Room, TakenOver}
 use Rattle.roster.proofs.Contents.{full-content}
 
 -- ---- the promise of a refused reading
@@ -56,10 +56,10 @@ pub record Open (b rs ts : List ℕ) (t : Trailer) : Type 0 where
   pub fit : tablesFit (t .relays) (t .tablets) rs ts ≡ true
   pub says : Says b t
 
-module _ (b rs ts : List ℕ) {t : Trailer} (o : t ≡ trailerOf b) {bar : Refusal} (e : bar ≡ barred (t .right) (t .scheme) (t .relays) (t .tablets) rs ts)
+module _ (b rs ts : List ℕ) {t : Trailer} (o : t ≡ trailerOf b) {bar : Refusal} (e : bar ≡ earlyRefusal (t .right) (t .scheme) (t .relays) (t .tablets) rs ts)
     {done : Bool} (ed : done ≡ isDone bar) where
   pub open-done : not done ≡ false → Open b rs ts t
-  unfolding barred firstBar isDone
+  unfolding earlyRefusal firstBar isDone
   open-done h =
       let d : isDone bar ≡ true = sym ed ∙ not-false done h in
       split (t .right)
@@ -71,7 +71,7 @@ module _ (b rs ts : List ℕ) {t : Trailer} (o : t ≡ trailerOf b) {bar : Refus
       (λ u. absurd (true-false (sym d ∙ ap isDone e ∙ rw u)))
 
   open-why : isDone bar ≡ false → refusal b rs ts ≡ bar
-  unfolding refusal barred firstBar isDone
+  unfolding refusal earlyRefusal firstBar isDone
   open-why d =
       split (t .right)
       (λ u.

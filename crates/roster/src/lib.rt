@@ -9,7 +9,7 @@ ghost use Rattle.ring.specs.Scheme.{known};
 ghost use Rattle.write.specs.Tables.{filled};
 ghost use Rattle.roster.specs.Content.{tablesFit};
 ghost use Rattle.roster.specs.Reading.{refusedReading, after, Answers};
-ghost use Rattle.roster.specs.Inner.{barred, fullTables, Room, TakenOver};
+ghost use Rattle.roster.specs.Inner.{earlyRefusal, fullTables, Room, TakenOver};
 
 // The numbers of scratch tables that take any roster: two to a place.
 const RELAY_NUMBERS: usize = 2 * lent::MOST_RELAYS;
@@ -44,7 +44,7 @@ fn tables_fit(n: usize, m: usize, relays: &[u32], tablets: &[u32]) -> bool
 }
 
 // The first refusal but for the content's.
-fn barred(
+fn early_refusal(
     shape: bool,
     scheme: u32,
     n: usize,
@@ -52,7 +52,7 @@ fn barred(
     relays: &[u32],
     tablets: &[u32],
 ) -> rule::Refusal
-    ensures { λ r. ⌜ r ≡ barred shape scheme n m (now (relays .entry)) (now (tablets .entry)) ⌝ }
+    ensures { λ r. ⌜ r ≡ earlyRefusal shape scheme n m (now (relays .entry)) (now (tablets .entry)) ⌝ }
 {
     if !shape {
         return rule::Refusal::RosterShapeWrong;
@@ -170,7 +170,7 @@ pub fn read(bytes: &[u8], relays: &mut [u32], tablets: &mut [u32]) -> Reading
     let n = t.relays;
     let m = t.tablets;
     let scheme = t.scheme;
-    let bar = barred(t.right, scheme, n, m, relays, tablets);
+    let bar = early_refusal(t.right, scheme, n, m, relays, tablets);
     let open = rule::done(bar);
     if !open {
         return refused(bar);

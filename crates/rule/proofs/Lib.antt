@@ -27,3 +27,4 @@ pub mod Moves
 pub mod Listing
 pub mod Outcomes
 pub mod Lowest
+pub mod Lengths

@@ -3,7 +3,7 @@
 --   turn-moves      so the chain of an enrolment, behind the newcomer, is the move list
 --   holes-moves     and so are those who fill the holes of a withdrawal
 -- Assumes nothing.
-use mathlib.Core.Bool.{Bool, true, false}
+use mathlib.Core.Bool.{Bool, true, false, and-false}
 use mathlib.Core.Path.{_≡_, refl, sym, ap, _∙_, subst}
 use mathlib.Core.List.{List, [], _∷_, _++_}
 use mathlib.Core.Logic.{_⊎_, inl, inr, ⊎-elim}
@@ -14,7 +14,7 @@ use borrow.Author.Tests.{ltb-true, eqb-true, eqb-false, le-ltb}
 use lib.Dec.{eqb, ltb}
 use Rattle.ring.specs.Scheme.{Positions}
 use Rattle.ring.specs.Clockwise.{distance, sooner}
-use Rattle.ring.proofs.Tests.{split, and-false, true-false}
+use Rattle.ring.proofs.Tests.{split, true-false}
 use Rattle.rule.specs.declared.Move.{Move}
 use Rattle.rule.specs.Entry.{Entry, numbers, has, besideOf, insert, delete, put, first, upTo}
 use Rattle.rule.specs.Calls.{moved}

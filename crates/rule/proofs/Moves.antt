@@ -4,7 +4,7 @@
 --   moved-rising   by rising number, so each once
 --   home-nearest   no relay stands ahead of the home
 -- Assumes nothing.
-use mathlib.Core.Bool.{Bool, true, false, not, _&&_}
+use mathlib.Core.Bool.{Bool, true, false, not, _&&_, and-false}
 use mathlib.Core.Path.{_≡_, refl, sym, _∙_}
 use mathlib.Core.List.{List, [], _∷_}
 use mathlib.Core.Logic.{_⊎_, inl, inr, ⊎-elim}
@@ -15,7 +15,7 @@ use borrow.Author.Tests.{eqb-false, eq-eqb, ne-eqb}
 use lib.Dec.{eqb}
 use Rattle.ring.specs.Scheme.{Positions}
 use Rattle.ring.specs.Clockwise.{key}
-use Rattle.ring.proofs.Tests.{split, and-false, and-left, and-right, true-false}
+use Rattle.ring.proofs.Tests.{split, and-left, and-right, true-false}
 use Rattle.rule.specs.declared.Move.{Move}
 use Rattle.rule.specs.Entry.{Entry, numbers, has, besideOf}
 use Rattle.rule.specs.Order.{order, home}

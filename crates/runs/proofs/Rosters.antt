@@ -6,11 +6,11 @@ use mathlib.Core.List.{List, [], _∷_}
 use mathlib.Core.Path.{_≡_, refl}
 use Prim.Native.Nat.{ℕ, _-_, _≤_}
 use native.Mathlib.Omega.{arith}
-use borrow.Author.Tests.{leb-true}
+use borrow.Author.Tests.{leb-true, not-false}
 use lib.Dec.{leb}
 use lib.ListN.{length}
 use Rattle.ring.specs.Scheme.{known, positions}
-use Rattle.ring.proofs.Tests.{and-left, and-right, not-false}
+use Rattle.ring.proofs.Tests.{and-left, and-right}
 use Rattle.rule.specs.declared.Refusal.the-variants.{SchemeUnknown, RosterShapeWrong, RosterContentWrong, OutputUnfit}
 use Rattle.rule.specs.Rule as Rule
 use Rattle.rule.specs.Refusals.{isDone, Bar, bar, firstBar}

@@ -1,3 +1,2 @@
-pub mod Positions
 pub mod Passing
 pub mod Standing

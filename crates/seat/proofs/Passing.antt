@@ -1,6 +1,6 @@
 -- What a look has found tells how far each tablet is from its home.
 --   home-within, home-byte, slot-within, slot-relay    of tablet j the home, its relay's slot, and the relay there
---   start-seated    so a seat can be worked out
+--   start-slotted    so a seat can be worked out
 --   ahead-steps     the relays ahead of its own are as many as the steps from its home to its relay's slot
 --   passed-steps    it had passed a relay that is fewer steps from its home than its own
 -- Assumes nothing.
@@ -28,14 +28,14 @@ use Rattle.meaning.specs.Meaning.{relaysIn, ringOf}
 use Rattle.meaning.proofs.Places.{length-places, beside-places}
 use Rattle.meaning.proofs.Words.{tablet-number-word}
 use Rattle.meaning.proofs.Right.{Rises, right-found}
-use Rattle.slots.specs.Slots.{stepsTo, numberAt, limitAt, round}
+use Rattle.slots.specs.Slots.{stepsTo, roundNumber, roundLimit, round}
 use Rattle.slots.proofs.Steps.{steps-inside, slot-steps}
 use Rattle.slots.proofs.Lists.{upTo-places}
 use Rattle.slots.proofs.Round.{number-apart, order-round, sooner-steps}
 use Rattle.look.specs.Start.{Start}
 use Rattle.look.proofs.Refusing.{start-rises, start-ring}
-use Rattle.seat.specs.Seat.{Seated}
-use Rattle.seat.proofs.Positions.{position-small}
+use Rattle.seat.specs.Seat.{Slotted}
+use Rattle.ring.proofs.Positions.{position-small}
 
 -- a home past the last of all slots is the first
 byte-steps : (n h k : ℕ) → n ≤ mostRelays → h ≤ n → k < n → stepsTo n (h % mostRelays) k ≡ stepsTo n h k
@@ -93,19 +93,19 @@ module _ {s : ℕ} {rs ts : List ℕ} {n m : ℕ} {v : Survey} (b : Start s rs t
     ours = λ e. eqb (e .number) (tabletRelay ts j)
 
     -- the relay so many steps from its home is its own, and none before it is
-    own : numberAt rs (v .keys) n (at-home .slot) (stepsTo n (at-home .slot) slotOf) ≡ tabletRelay ts j
-    unfolding numberAt
+    own : roundNumber rs (v .keys) n (at-home .slot) (stepsTo n (at-home .slot) slotOf) ≡ tabletRelay ts j
+    unfolding roundNumber
     own = ap (λ (x : ℕ). relayNumber rs (slotRelay (v .keys) x)) (slot-steps n (at-home .slot) (at-home .home .begins .within) slotOf slot-within) ∙ slot-relay
 
     up-to-own : upTo ours (round rs (v .keys) n (at-home .slot) n) ≡ round rs (v .keys) n (at-home .slot) (stepsTo n (at-home .slot) slotOf)
     up-to-own =
         let d : ℕ = stepsTo n (at-home .slot) slotOf in
         let inside : d < n = steps-inside n (at-home .slot) (at-home .home .begins .within) slotOf slot-within in
-        upTo-places ours (numberAt rs (v .keys) n (at-home .slot)) (limitAt rs (v .keys) n (at-home .slot)) n d inside
-        (λ i c. ne-eqb (numberAt rs (v .keys) n (at-home .slot) i) (tabletRelay ts j)
-        (λ (e : numberAt rs (v .keys) n (at-home .slot) i ≡ tabletRelay ts j).
+        upTo-places ours (roundNumber rs (v .keys) n (at-home .slot)) (roundLimit rs (v .keys) n (at-home .slot)) n d inside
+        (λ i c. ne-eqb (roundNumber rs (v .keys) n (at-home .slot) i) (tabletRelay ts j)
+        (λ (e : roundNumber rs (v .keys) n (at-home .slot) i ≡ tabletRelay ts j).
         number-apart (positions s) rs n (rises .relaysFit .few) (rises .relays) (v .keys) (b .surveyed .ordered) (tabletNumber ts j) small (at-home .slot) (at-home .home) i d c inside (e ∙ sym own)))
-        (eq-eqb (numberAt rs (v .keys) n (at-home .slot) d) (tabletRelay ts j) own)
+        (eq-eqb (roundNumber rs (v .keys) n (at-home .slot) d) (tabletRelay ts j) own)
 
     pub ahead-steps : aheadOf (positions s) (ringOf rs ts) (tabletNumber ts j) ≡ stepsTo n (getD (v .home) j 0) (getD (v .slot) j 0)
     unfolding aheadOf
@@ -114,8 +114,8 @@ module _ {s : ℕ} {rs ts : List ℕ} {n m : ℕ} {v : Survey} (b : Start s rs t
         ∙ ap (λ (q : ℕ). length (upTo (λ e. eqb (e .number) q) (order (positions s) (tabletNumber ts j) (relaysIn rs n)))) (beside-places (tabletRelay ts) (rises .tablets) j h)
         ∙ ap (λ (l : List Entry). length (upTo ours l)) (order-round (positions s) rs n (rises .relaysFit .few) (rises .relays) (v .keys) (b .surveyed .ordered) (tabletNumber ts j) small (at-home .slot) (at-home .home))
         ∙ ap length up-to-own
-        ∙ length-places (numberAt rs (v .keys) n (at-home .slot)) (limitAt rs (v .keys) n (at-home .slot)) (stepsTo n (at-home .slot) slotOf)
+        ∙ length-places (roundNumber rs (v .keys) n (at-home .slot)) (roundLimit rs (v .keys) n (at-home .slot)) (stepsTo n (at-home .slot) slotOf)
         ∙ sym (from-home slotOf slot-within)
 
-  pub start-seated : Seated ts n m (v .home) (v .slot)
-  start-seated = record { relaysFew = rises .relaysFit .few; tabletsFit = rises .tabletsFit; numbers = rises .tablets; homes = home-within; slots = slot-within }
+  pub start-slotted : Slotted ts n m (v .home) (v .slot)
+  start-slotted = record { relaysFew = rises .relaysFit .few; tabletsFit = rises .tabletsFit; numbers = rises .tablets; homes = home-within; slots = slot-within }

@@ -7,6 +7,7 @@ use mathlib.Core.Bool.{Bool, true, false, not}
 use mathlib.Core.Path.{_≡_, sym, _∙_}
 use mathlib.Core.List.{List}
 use Prim.Native.Nat.{ℕ}
+use borrow.Author.Tests.{not-true}
 use Rattle.ring.specs.Scheme.{positions}
 use Rattle.ring.specs.declared.TabletNumber.{TabletNumber}
 use Rattle.rule.specs.declared.Reply.{Reply}
@@ -21,7 +22,6 @@ use Rattle.meaning.specs.Meaning.{tabletsIn, ringOf, lentOf}
 use Rattle.meaning.proofs.Places.{beside-places}
 use Rattle.look.specs.Start.{Start}
 use Rattle.look.specs.Promise.{after, Answers}
-use Rattle.look.proofs.Checked.{not-true}
 use Rattle.look.proofs.Refusing.{start-rises, start-ring, number-refused, refused-answers}
 use Rattle.spot.specs.Spot.{missing}
 use Rattle.seat.specs.declared.Seat.{Seat}
@@ -42,7 +42,7 @@ module _ {s : ℕ} {rs ts : List ℕ} {n m : ℕ} {v : Survey} (b : Start s rs t
       → ((lent : Lent) → firstBar (wrongNumbers lent (ringOf rs ts) c) ≡ missing (t .0) (has (tabletsIn ts m) (t .0))) → (ms : List ℕ)
       → Answers (after s rs ts ms c) reply rs ts ms
   seat-refused {seat} f ed h {reply} ep c e ms =
-      let no : isDone (seat .refusal) ≡ false = sym ed ∙ not-true h in
+      let no : isDone (seat .refusal) ≡ false = sym ed ∙ not-true _ h in
       refused-answers s rs ts ms c (seat .refusal) (number-refused s rs ts ms c b (seat .refusal) (e (lentOf s rs ts ms) ∙ sym (f .refusal)) no) no reply ep
 
   module _ {seat : Seat} (f : Found ts n m (v .home) (v .slot) (t .0) seat) where

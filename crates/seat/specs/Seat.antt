@@ -14,7 +14,7 @@ use Rattle.spot.specs.Spot.{missing}
 use Rattle.seat.specs.declared.Seat.{Seat}
 
 -- m tablets by rising number, of each its home and its relay's slot among n relays
-pub record Seated (ts : List ℕ) (n m : ℕ) (home slot : List ℕ) : Type 0 where
+pub record Slotted (ts : List ℕ) (n m : ℕ) (home slot : List ℕ) : Type 0 where
   pub relaysFew : n ≤ mostRelays
   pub tabletsFit : TabletsIn ts m
   pub numbers : Ascending (tabletNumber ts) m

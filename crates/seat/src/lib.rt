@@ -4,7 +4,7 @@ ghost use mathlib.Core.Path.{_≡_};
 ghost use Prim.Native.Nat.{_≤_};
 ghost use Rattle.lent.specs.Table.{mostRelays};
 ghost use Rattle.slots.specs.Slots.{stepsTo};
-ghost use Rattle.seat.specs.Seat.{Seated, SeatOf};
+ghost use Rattle.seat.specs.Seat.{Slotted, SeatOf};
 
 // How many steps clockwise slot k is from slot h, of n.
 pub fn steps_to(n: usize, h: u8, k: u8) -> usize
@@ -33,7 +33,7 @@ pub fn seat_of<'a>(
     slot: &'a [u8; 4096],
     t: ring::TabletNumber,
 ) -> Seat
-    requires { ⌜ Seated (now tablets) n m (now home) (now slot) ⌝ }
+    requires { ⌜ Slotted (now tablets) n m (now home) (now slot) ⌝ }
     ensures { λ s. ⌜ SeatOf (now (tablets .entry)) n m (now (home .entry)) (now (slot .entry)) (t .0) s ⌝ }
 {
     let at = spot::tablet_spot(tablets, m, t);

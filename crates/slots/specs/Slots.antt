@@ -16,12 +16,13 @@ slotAt n h d = cond (ltb (h + d) n) (h + d) (h + d - n)
 unfoldable pub stepsTo : ℕ → ℕ → ℕ → ℕ
 stepsTo n h k = cond (leb h k) (k - h) (k + n - h)
 
-unfoldable pub numberAt : List ℕ → List ℕ → ℕ → ℕ → ℕ → ℕ
-numberAt rs keys n h d = relayNumber rs (slotRelay keys (slotAt n h d))
+-- the number and the limit of the relay d steps from slot h
+unfoldable pub roundNumber : List ℕ → List ℕ → ℕ → ℕ → ℕ → ℕ
+roundNumber rs keys n h d = relayNumber rs (slotRelay keys (slotAt n h d))
 
-unfoldable pub limitAt : List ℕ → List ℕ → ℕ → ℕ → ℕ → ℕ
-limitAt rs keys n h d = relayLimit rs (slotRelay keys (slotAt n h d))
+unfoldable pub roundLimit : List ℕ → List ℕ → ℕ → ℕ → ℕ → ℕ
+roundLimit rs keys n h d = relayLimit rs (slotRelay keys (slotAt n h d))
 
 -- the relays of the first d steps from slot h
 abbrev pub round : List ℕ → List ℕ → ℕ → ℕ → ℕ → List Entry
-round rs keys n h d = places (numberAt rs keys n h) (limitAt rs keys n h) d
+round rs keys n h d = places (roundNumber rs keys n h) (roundLimit rs keys n h) d

@@ -2,61 +2,32 @@
 --   outcome-room    the outcome, with the list cut to so many places
 -- Assumes nothing.
 use mathlib.Core.Bool.{Bool, true, false, not, _&&_}
-use mathlib.Core.List.{List, [], _∷_, _++_}
-use mathlib.Core.Option.{Option, none, some}
+use mathlib.Core.List.{List, [], _∷_}
 use mathlib.Core.Path.{_≡_, refl, sym, ap, _∙_}
-use Prim.Native.Nat.{ℕ, suc, _+_, _≤_, min}
+use Prim.Native.Nat.{ℕ, _≤_, min}
 use native.Mathlib.Omega.{arith}
-use borrow.Author.Tests.{ltb-true, ltb-false, leb-true, leb-false, lt-ltb, le-ltb}
+use borrow.Author.Tests.{ltb-true, ltb-false, leb-true, leb-false, lt-ltb, le-ltb, not-false}
 use lib.Dec.{eqb, ltb, leb}
-use lib.ListN.{length, length-append}
+use lib.ListN.{length}
 use Rattle.ring.specs.Scheme.{known, Positions, positions}
-use Rattle.ring.proofs.Tests.{split, and-left, and-right, not-false}
+use Rattle.ring.proofs.Tests.{split, and-left, and-right}
 use Rattle.rule.specs.declared.Refusal.{Refusal}
 use Rattle.rule.specs.declared.Refusal.the-variants.{SchemeUnknown, TablesNotRight, NumberZero, ThereAlready, NoUnusedPlace, LimitsTooSmall, MoveListTooShort}
 use Rattle.rule.specs.declared.Call.{Call}
 use Rattle.rule.specs.declared.Call.the-variants.{Add, Remove, Set, Enrol, Withdraw, Find}
-use Rattle.rule.specs.Entry.{Entry, entry, numbers, has, besideOf, total}
-use Rattle.rule.specs.Rule.{Ring, seat, seatAll, placement, right}
+use Rattle.rule.specs.Entry.{has, total}
+use Rattle.rule.specs.Rule.{Ring, right}
 use Rattle.rule.specs.Refusals.{isDone, Bar, bar, firstBar}
-use Rattle.rule.specs.Calls.{edited, orNobody, after, moved, moves, wrongNumbers, refusal, accepted, declined, outcome}
+use Rattle.rule.specs.Calls.{edited, moves, wrongNumbers, refusal, accepted, declined, outcome}
 use Rattle.rule.proofs.Accepted.{bar-passed}
 use Rattle.rule.proofs.Counts.{length-insert, delete-length}
-use Rattle.rule.proofs.Right.{length-numbers}
+use Rattle.rule.proofs.Lengths.{moves-length}
 use Rattle.lent.specs.Table.{mostTablets, relayPlaces, relayNumber, relayLimit, tabletPlaces, tabletNumber, tabletRelay, tabletWhole}
 use Rattle.lent.specs.Shape.{relaysUsed, tabletsUsed, relayFits, tabletFits}
 use Rattle.lent.proofs.Shape.{used-most}
 use Rattle.meaning.specs.Meaning.{ringOf, restUnused, fitTables}
 use Rattle.meaning.proofs.Places.{length-places}
 use Rattle.station.specs.Promise.{lentWith, outcomeWith}
-
--- ---- lengths
-
-moved-length : (old es : List Entry) → length (moved old es) ≤ length es
-unfolding moved
-moved-length old [] = omega arith
-moved-length old (e ∷ es) =
-    split (has old (e .number) && not (eqb (besideOf old (e .number)) (e .beside)))
-    (λ s. rw (s, moved) (omega (arith, moved-length old es)))
-    (λ s. rw (s, moved) (omega (arith, moved-length old es)))
-
-seated-length : (p : Positions) (rs seated : List Entry) (ts : List ℕ) → length (orNobody (seatAll p rs seated ts)) ≤ length seated + length ts
-unfolding seatAll orNobody
-seated-length p rs seated [] = omega arith
-seated-length p rs seated (t ∷ ts) = at-seat (seat p rs seated t) refl (λ r. seated-length p rs (with r) ts)
-  where
-    with : Entry → List Entry
-    with r = seated ++ (entry t (r .number) ∷ [])
-
-    at-seat : (r : Option Entry) → seat p rs seated t ≡ r → ((x : Entry) → length (orNobody (seatAll p rs (with x) ts)) ≤ length (with x) + length ts)
-        → length (orNobody (seatAll p rs seated (t ∷ ts))) ≤ length seated + suc (length ts)
-    at-seat none e f = rw (e, seatAll) (omega arith)
-    at-seat (some r) e f = rw (e, seatAll) (omega (arith, f r, length-append seated (entry t (r .number) ∷ [])))
-
-moves-length : (p : Positions) (g : Ring) (c : Call) → length (moves p g c) ≤ length (edited g c .tablets)
-unfolding moves after placement
-moves-length p g c =
-    omega (arith, moved-length (g .tablets) (after p g c .tablets), seated-length p (edited g c .relays) [] (numbers (edited g c .tablets)), length-numbers (edited g c .tablets))
 
 -- ---- so many moves at most
 

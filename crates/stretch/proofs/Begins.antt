@@ -3,7 +3,7 @@
 --   begins-apart, begins-short   it does not where a number differs, or the other is shorter
 --   begins-long, begins-front    where it does, the other is no shorter, and is it with more behind
 -- Assumes nothing.
-use mathlib.Core.Bool.{Bool, true, false}
+use mathlib.Core.Bool.{Bool, true, false, and-false}
 use mathlib.Core.Path.{_≡_, refl, sym, ap₂, _∙_}
 use mathlib.Core.List.{List, [], _∷_, _++_}
 use Prim.Native.Nat.{ℕ, zero, suc, _≤_, _<_}
@@ -11,7 +11,7 @@ use native.Mathlib.Omega.{arith}
 use borrow.Author.Tests.{ltb-true, ltb-false, eqb-true, eq-eqb}
 use lib.Dec.{eqb, ltb}
 use lib.ListN.{length, getD, take, drop}
-use Rattle.ring.proofs.Tests.{split, true-false, and-left, and-right, and-false}
+use Rattle.ring.proofs.Tests.{split, true-false, and-left, and-right}
 use Rattle.rule.specs.Sheet.{begins}
 
 pub begins-take : (xs ys : List ℕ) → take (length xs) ys ≡ xs → begins xs ys ≡ true

@@ -9,9 +9,9 @@ use mathlib.Core.List.{List}
 use Prim.Native.Nat.{ℕ, suc, _+_, _-_, _≤_, _<_}
 use native.Mathlib.Numerals.{add-one}
 use native.Mathlib.Omega.{arith}
-use borrow.Author.Tests.{ltb-true, eqb-true}
+use borrow.Author.Tests.{ltb-true, eqb-true, not-false}
 use lib.Dec.{eqb, ltb}
-use Rattle.ring.proofs.Tests.{not-false, and-left, and-right}
+use Rattle.ring.proofs.Tests.{and-left, and-right}
 use Rattle.rule.specs.Entry.{Entry, has, keep, load, loads}
 use Rattle.rule.specs.Rule.{Ring}
 use Rattle.lent.specs.Table.{relayNumber, relayLimit}

@@ -4,14 +4,15 @@
 --   other-bounds     its first numbers are not these tables' sheet
 --   found-bounds     none of these: behind the tablets of all relays with lower numbers
 -- Assumes nothing.
-use mathlib.Core.Bool.{Bool, true, false, not, _&&_}
+use mathlib.Core.Bool.{Bool, true, false, not, _&&_, and-false}
 use mathlib.Core.Path.{_≡_, sym, ap, _∙_}
 use mathlib.Core.List.{List, []}
 use Prim.Native.Nat.{ℕ, _+_, _≤_}
 use native.Mathlib.Omega.{arith}
 use lib.ListN.{length}
+use borrow.Author.Tests.{not-true, not-false}
 use Rattle.ring.specs.Scheme.{known, positions}
-use Rattle.ring.proofs.Tests.{split, not-false, and-false, true-false}
+use Rattle.ring.proofs.Tests.{split, true-false}
 use Rattle.rule.specs.Entry.{has}
 use Rattle.rule.specs.Rule as Rule
 use Rattle.rule.specs.Rule.{Ring}
@@ -24,7 +25,6 @@ use Rattle.meaning.specs.Meaning.{Words, relaysIn, tabletsIn, ringOf, fitTables
 use Rattle.meaning.proofs.Right.{right-meaning}
 use Rattle.look.specs.declared.Looked.{Looked}
 use Rattle.look.specs.Start.{checked, Start, Looks}
-use Rattle.look.proofs.Checked.{not-true}
 use Rattle.look.proofs.Refusing.{start-ring, tables-right}
 use Rattle.spot.specs.Spot.{Spot}
 use Rattle.sheet.specs.Laying.{startAt}
@@ -59,7 +59,7 @@ module _ (s : ℕ) (rs ts lent : List ℕ) (r : ℕ) where
       → {from to : ℕ} → (from ≡ 0) × (to ≡ 0) → Bounds part (length lent) from to
   unfolding sheetFits lentOf
   look-bounds {l} k {done} e wr wt h z =
-      none-bounds (rw (not-right wr wt (ap isDone (sym (k .refusal)) ∙ sym e ∙ not-true h))) z
+      none-bounds (rw (not-right wr wt (ap isDone (sym (k .refusal)) ∙ sym e ∙ not-true _ h))) z
 
   module _ {n m : ℕ} {v : Survey} (b : Start s rs ts n m v) where
     abbrev whole : List ℕ
@@ -74,11 +74,11 @@ module _ (s : ℕ) (rs ts lent : List ℕ) (r : ℕ) where
     other e = fits-is ∙ rw e
 
     pub absent-bounds : {there : Bool} → there ≡ has (relaysIn rs n) r → not there ≡ true → {from to : ℕ} → (from ≡ 0) × (to ≡ 0) → Bounds part (length lent) from to
-    absent-bounds et h z = none-bounds (fits-is ∙ rw (sym et ∙ not-true h) (and-false (begins whole lent))) z
+    absent-bounds et h z = none-bounds (fits-is ∙ rw (sym et ∙ not-true _ h) (and-false (begins whole lent))) z
 
     pub other-bounds : {theirs : Bool} → theirs ≡ begins (sheetFrom (relaysIn rs n) (tabletsIn ts m)) lent → not theirs ≡ true
         → {from to : ℕ} → (from ≡ 0) × (to ≡ 0) → Bounds part (length lent) from to
-    other-bounds eb h z = none-bounds (other (sym eb ∙ not-true h)) z
+    other-bounds eb h z = none-bounds (other (sym eb ∙ not-true _ h)) z
 
     pub found-bounds : {there : Bool} (et : there ≡ has (relaysIn rs n) r) (ht : not there ≡ false) {at : ℕ} (sp : Spot (relayNumber rs) n r at)
         → {theirs : Bool} → theirs ≡ begins (sheetFrom (relaysIn rs n) (tabletsIn ts m)) lent → not theirs ≡ false

@@ -70,13 +70,7 @@ pub fn first_row(keys: &[u64; 256], room: &[u32; 256], n: usize) -> [u8; 256]
 pub fn led_to(next: &[u8; 256], h: usize) -> usize
     ensures { λ r. ⌜ (r ≡ getD (now (next .entry)) (h % mostRelays) 0) × (r < mostRelays) ⌝ }
 {
-    from_u8(next[h % 256])
-}
-
-fn from_u8(x: u8) -> usize
-    ensures { λ r. ⌜ (r ≡ x) × (r < mostRelays) ⌝ }
-{
-    x as usize
+    ring::from_u8(next[h % 256])
 }
 
 // x, and where it is k, the number that lies `by` further on round 256.
@@ -151,7 +145,7 @@ pub fn look_over(scheme: u32, relays: &[u32], tablets: &[u32], n: usize, m: usiz
     let position = lent::relay_positions(scheme, relays, n);
     let keys = order::ring_order(&position, n);
     let in_turn = order::in_turn(scheme);
-    let start = order::starts(&keys, n, in_turn);
+    let start = order::arc_starts(&keys, n, in_turn);
     let mut room = lent::relay_limits(relays, n);
     let mut next = first_row(&keys, &room, n);
     let mut last = [0u16; 256];

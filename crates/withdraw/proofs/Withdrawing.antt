@@ -10,9 +10,9 @@ use Prim.Native.Nat.{ℕ, _/_, _≤_, _<_}
 use native.Mathlib.Omega.{arith}
 use lib.ListN.{length, take}
 use lib.Seq.{length-take-le}
+use borrow.Author.Tests.{not-false}
 use Rattle.ring.specs.Scheme.{positions}
 use Rattle.ring.specs.declared.TabletNumber.{TabletNumber}
-use Rattle.ring.proofs.Tests.{not-false}
 use Rattle.rule.specs.declared.Move.{Move}
 use Rattle.rule.specs.declared.Refusal.the-variants.{Done, MoveListTooShort}
 use Rattle.rule.specs.declared.Reply.{Reply}
@@ -39,8 +39,8 @@ use Rattle.look.proofs.Stays.{tablets-whole, tablets-zeros, relays-stay}
 use Rattle.seat.specs.declared.Seat.{Seat}
 use Rattle.seat.specs.Seat.{Found, SeatOf}
 use Rattle.seat.proofs.Standing.{missing-withdraw, found-relay, found-passed}
-use Rattle.holes.specs.declared.Chain.{Chain}
-use Rattle.holes.specs.Holes.{Chains}
+use Rattle.holes.specs.declared.Movers.{Movers}
+use Rattle.holes.specs.Holes.{MoversAre}
 use Rattle.holes.specs.Filling.{movesOf, Fillers, Filled}
 use Rattle.holes.proofs.Sitting.{length-moves}
 use Rattle.withdraw.proofs.Known.{right}
@@ -74,7 +74,7 @@ module _ {s : ℕ} {rs ts : List ℕ} {n m : ℕ} {v : Survey} (b : Start s rs t
       rw (start-ring b)
       (omega (arith, right b .enough, length-delete (t .0) (besideOf (tabletsIn ts m) (t .0)) (tabletsIn ts m) 0 (right b .tablets .up) (has-sits (tabletsIn ts m) 0 (t .0) (right b .tablets .up) there)))
 
-  module _ {chain : Chain} (c : Chains (v .home) (v .slot) m (seat .at) chain) (ms : List ℕ) where
+  module _ {chain : Movers} (c : MoversAre (v .home) (v .slot) m (seat .at) chain) (ms : List ℕ) where
     abbrev chainMoves : List Move
     chainMoves = movesOf ts (tabletRelay ts (seat .at)) (take (chain .count) (chain .places))
 

@@ -12,7 +12,7 @@ use lib.ListN.{length, drop, length-append, length-drop}
 use lib.Seq.{sets, sets-eq, take-at, drop-append-add, drop-drop}
 use Rattle.rule.specs.declared.Move.{Move}
 use Rattle.write.specs.Tables.{flatMoves, listed}
-use Rattle.write.specs.Listing.{moveAt}
+use Rattle.write.specs.Listing.{setMove}
 
 pub length-moves : (ms : List Move) → length (flatMoves ms) ≡ 3 * length ms
 unfolding flatMoves
@@ -33,8 +33,8 @@ unfolding listed
 length-listed ms list h = omega (arith, length-append (flatMoves ms) (drop (3 * length ms) list), length-moves ms, length-drop (3 * length ms) list)
 
 pub listed-more : (ms : List Move) (list : List ℕ) (m : Move) {before after : List ℕ} {c : ℕ} → before ≡ listed ms list → c ≡ length ms
-    → 3 * (c + 1) ≤ length list → after ≡ moveAt before c (m .tablet) (m .old) (m .new) → after ≡ listed (ms ++ (m ∷ [])) list
-unfolding listed moveAt
+    → 3 * (c + 1) ≤ length list → after ≡ setMove before c (m .tablet) (m .old) (m .new) → after ≡ listed (ms ++ (m ∷ [])) list
+unfolding listed setMove
 listed-more ms list m e ec h e′ =
     let i : ℕ = 3 * length ms in
     let f : List ℕ = flatMoves ms in

@@ -4,5 +4,5 @@ use Prim.Native.Nat.{ℕ, _*_}
 use lib.Seq.{sets}
 
 -- the list with this as its move c, counted from 0
-unfoldable pub moveAt : List ℕ → ℕ → ℕ → ℕ → ℕ → List ℕ
-moveAt list c tablet old new = sets list (3 * c) (tablet ∷ old ∷ new ∷ [])
+unfoldable pub setMove : List ℕ → ℕ → ℕ → ℕ → ℕ → List ℕ
+setMove list c tablet old new = sets list (3 * c) (tablet ∷ old ∷ new ∷ [])

@@ -7,7 +7,7 @@ ghost use Rattle.lent.specs.Table.{relayPlaces, relayNumber, relayLimit, tablet
 ghost use Rattle.meaning.specs.Meaning.{relaysIn, tabletsIn};
 ghost use Rattle.write.specs.Wrote.{WroteRelays, WroteTablets, Place, Climbs};
 ghost use Rattle.write.specs.Places.{SetPlace, SetBeside, TookOut};
-ghost use Rattle.write.specs.Listing.{moveAt};
+ghost use Rattle.write.specs.Listing.{setMove};
 
 // ---- one place of a table. Nothing below these four functions knows how many numbers a place has.
 
@@ -136,7 +136,7 @@ pub fn seat_tablet(tablets: &mut [u32], m: usize, j: usize, r: ring::RelayNumber
 // The move at place c of a move list.
 pub fn list_move(moves: &mut [u32], c: usize, tablet: u32, old: u32, new: u32)
     requires { ⌜ 3 * (c + 1) ≤ length (now moves) ⌝ }
-    ensures { λ _. ⌜ now (moves .exit) ≡ moveAt (now (moves .entry)) c tablet old new ⌝ }
+    ensures { λ _. ⌜ now (moves .exit) ≡ setMove (now (moves .entry)) c tablet old new ⌝ }
 {
     moves[3 * c] = tablet;
     moves[3 * c + 1] = old;

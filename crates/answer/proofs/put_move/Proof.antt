@@ -1,5 +1,5 @@
 -- `answer::put_move` meets its contract: `m ` and three numbers, one behind the other. Assumes nothing.
-use Rattle.answer.specs.Text.{moveText, moveAt}
+use Rattle.answer.specs.Text.{moveText, moveTextAt}
 use Rattle.answer.proofs.Putting.{puts-append}
 use borrow.Author.Needs.{needs}
 use Rattle.answer.proofs.put_move.Statement.{statement}
@@ -51,7 +51,7 @@ same-length : tie.Need-same-length
 same-length c = search needs
 
 returns : tie.Need-returns
-unfolding moveAt moveText
+unfolding moveTextAt moveText
 returns c =
     puts-append (c .before .before .before .before .before .before .before .before .before .before .before .before .before .before .before .before .before .put-bytes .ensures)
     (puts-append (c .before .before .before .before .before .before .before .before .before .before .before .before .put-number .ensures) (puts-append (c .before .before .before .before .before .before .before .put-number2 .ensures) (c .before .before .put-number3 .ensures)))

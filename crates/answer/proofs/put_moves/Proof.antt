@@ -5,7 +5,7 @@ use Prim.Native.Nat.{_+_, _-_, _≤_}
 use native.Mathlib.Numerals.{add-one}
 use native.Mathlib.Omega.{arith}
 use borrow.Author.Needs.{needs}
-use Rattle.answer.specs.Text.{Puts, moveAt, movesText}
+use Rattle.answer.specs.Text.{Puts, moveTextAt, movesText}
 use Rattle.answer.proofs.Putting.{puts-nothing, puts-text, puts-append, puts-within, puts-length}
 use Rattle.answer.proofs.put_moves.Statement.{statement}
 use Rattle.answer.proofs.put_moves.Tie as tie
@@ -34,7 +34,7 @@ unfolding movesText
 loop-again c =
     let l = c .before .before .before .before .before .loop in
     let moves = c .before .before .before .before .before .before .before .before .args .moves .now in
-    let more : movesText moves (l .i) ++ moveAt moves (l .i) ≡ movesText moves (l .i + 1) = rw (add-one) in
+    let more : movesText moves (l .i) ++ moveTextAt moves (l .i) ≡ movesText moves (l .i + 1) = rw (add-one) in
     (omega arith, puts-text more (puts-append (l .inv .1) (c .before .before .put-move .ensures)))
 
 same-length : tie.Need-same-length Inv-loop μ-loop

@@ -42,7 +42,7 @@ visit-requires : tie.Need-visit-requires Inv-loop μ-loop
 visit-requires c κs =
     let small = last-small (c .before .before .before .before .before .before .before .before .before .before .before .before .pre .1) _ _ _ _ _ (c .before .before .before .before .before .before .before .before .loop .inv) _ (c .before .before .before .before .before .before .slot-relay .ensures .0) in
     let fit = c .before .before .before .before .before .before .before .before .before .before .before .before .pre .1 .rises .tabletsFit in
-    let same = c .from-u16 .ensures in
+    let same = c .from-u16 .ensures .0 in
     (room-for-one (c .before .before .before .before .before .before .before .before .before .before .before .before .pre .1) _ _ _ _ _ (c .before .before .before .before .before .before .before .before .loop .inv) (c .before .before .before .before .before .before .before .loop-test .taken), c .before .before .before .before .before .before .slot-relay .ensures .1, omega (arith, small, fit .few, same), omega (arith, small, fit .there, same), c .before .before .before .before .before .before .before .before .loop .inv .place-size, c .before .before .before .before .before .before .before .before .loop .inv .seat-size)
 
 next-slot-requires : tie.Need-next-slot-requires Inv-loop μ-loop
@@ -55,7 +55,7 @@ loop-less : tie.Need-loop-less Inv-loop μ-loop
 loop-less c = omega (arith, more-steps (c .before .before .before .before .before .before .before .before .before .before .before .before .before .before .pre .1) _ _ _ _ _ (c .before .before .before .before .before .before .before .before .before .before .loop .inv) (c .before .before .before .before .before .before .before .before .before .loop-test .taken))
 
 loop-again : tie.Need-loop-again Inv-loop μ-loop
-loop-again c = going-more (c .before .before .before .before .before .before .before .before .before .before .before .before .before .before .pre .1) _ _ _ _ _ (c .before .before .before .before .before .before .before .before .before .before .loop .inv) (c .before .before .before .before .before .before .before .before .before .loop-test .taken) _ _ _ (c .before .before .before .before .before .before .before .before .slot-relay .ensures .0) (c .before .before .before .before .before .before .walker .ensures) (c .before .before .from-u16 .ensures) _ _ _ _ (c .before .visit .ensures) (c .next-slot .ensures)
+loop-again c = going-more (c .before .before .before .before .before .before .before .before .before .before .before .before .before .before .pre .1) _ _ _ _ _ (c .before .before .before .before .before .before .before .before .before .before .loop .inv) (c .before .before .before .before .before .before .before .before .before .loop-test .taken) _ _ _ (c .before .before .before .before .before .before .before .before .slot-relay .ensures .0) (c .before .before .before .before .before .before .walker .ensures) (c .before .before .from-u16 .ensures .0) _ _ _ _ (c .before .visit .ensures) (c .next-slot .ensures)
 
 slot-relay-requires-2 : tie.Need-slot-relay-requires-2 Inv-loop μ-loop
 slot-relay-requires-2 c κs = omega (arith, c .before .before .before .before .before .pre .1 .inside, c .before .before .before .before .before .pre .1 .rises .relaysFit .few)

@@ -9,8 +9,8 @@ use borrow.Author.Needs.{needs}
 use Rattle.enrol.proofs.enrol.Statement.{statement}
 use Rattle.enrol.proofs.enrol.Tie as tie
 
-work-out-requires : tie.Need-work-out-requires
-work-out-requires c κs = search needs
+prepare-requires : tie.Need-prepare-requires
+prepare-requires c κs = search needs
 
 done-requires : tie.Need-done-requires
 done-requires c κs = search needs
@@ -23,7 +23,7 @@ same-length c = search needs
 
 returns : tie.Need-returns
 returns c =
-    let pl = c .before .before .before .work-out .ensures (c .before .before .before .before .before .before .before .before .args .moves .now) refl in
+    let pl = c .before .before .before .prepare .ensures (c .before .before .before .before .before .before .before .before .args .moves .now) refl in
     refused-answers _ _ _ _ _ _ (sym (pl .refusal)) (test-false _ (c .before .before .done .ensures) (c .before .if1 .taken)) _ (c .refused .ensures)
 
 array-read-from-u8 : tie.Need-array-read-from-u8
@@ -34,24 +34,24 @@ from-u8-requires c κs = search needs
 
 relay-number-requires : tie.Need-relay-number-requires
 relay-number-requires c κs =
-    let w = c .before .before .before .before .before .before .work-out .ensures (c .before .before .before .before .before .before .before .before .before .before .before .args .moves .now) refl .worked (test-true _ (c .before .before .before .before .before .done .ensures) (c .before .before .before .before .if1 .left)) in
-    omega (arith, c .from-u8 .ensures, w .seatable .relays 0 (omega arith))
+    let w = c .before .before .before .before .before .before .prepare .ensures (c .before .before .before .before .before .before .before .before .before .before .before .args .moves .now) refl .worked (test-true _ (c .before .before .before .before .before .done .ensures) (c .before .before .before .before .if1 .left)) in
+    omega (arith, c .from-u8 .ensures .0, w .seatable .relays 0 (omega arith))
 
 seat-others-requires : tie.Need-seat-others-requires
 seat-others-requires c κs =
-    c .before .before .before .before .before .before .before .before .before .before .before .work-out .ensures (c .before .before .before .before .before .before .before .before .before .before .before .before .before .before .before .before .args .moves .now) refl .worked (test-true _ (c .before .before .before .before .before .before .before .before .before .before .done .ensures) (c .before .before .before .before .before .before .before .before .before .if1 .left)) .seatable
+    c .before .before .before .before .before .before .before .before .before .before .before .prepare .ensures (c .before .before .before .before .before .before .before .before .before .before .before .before .before .before .before .before .args .moves .now) refl .worked (test-true _ (c .before .before .before .before .before .before .before .before .before .before .done .ensures) (c .before .before .before .before .before .before .before .before .before .if1 .left)) .seatable
 
 insert-tablet-requires : tie.Need-insert-tablet-requires
-insert-tablet-requires c κs = place-still (c .before .before .before .before .before .before .before .before .before .before .before .before .before .before .before .before .before .work-out .ensures (c .before .before .before .before .before .before .before .before .before .before .before .before .before .before .before .before .before .before .before .before .before .before .args .moves .now) refl) (test-true _ (c .before .before .before .before .before .before .before .before .before .before .before .before .before .before .before .before .done .ensures) (c .before .before .before .before .before .before .before .before .before .before .before .before .before .before .before .if1 .left)) (c .before .before .before .before .before .seat-others .ensures _)
+insert-tablet-requires c κs = place-still (c .before .before .before .before .before .before .before .before .before .before .before .before .before .before .before .before .before .prepare .ensures (c .before .before .before .before .before .before .before .before .before .before .before .before .before .before .before .before .before .before .before .before .before .before .args .moves .now) refl) (test-true _ (c .before .before .before .before .before .before .before .before .before .before .before .before .before .before .before .before .done .ensures) (c .before .before .before .before .before .before .before .before .before .before .before .before .before .before .before .if1 .left)) (c .before .before .before .before .before .seat-others .ensures _)
 
 cast-t31 : tie.Need-cast-t31
 cast-t31 c =
-    let w = c .before .before .before .before .before .before .before .before .before .before .before .before .before .before .before .before .before .before .before .before .before .work-out .ensures (c .before .before .before .before .before .before .before .before .before .before .before .before .before .before .before .before .before .before .before .before .before .before .before .before .before .before .args .moves .now) refl .worked (test-true _ (c .before .before .before .before .before .before .before .before .before .before .before .before .before .before .before .before .before .before .before .before .done .ensures) (c .before .before .before .before .before .before .before .before .before .before .before .before .before .before .before .before .before .before .before .if1 .left)) in
+    let w = c .before .before .before .before .before .before .before .before .before .before .before .before .before .before .before .before .before .before .before .before .before .prepare .ensures (c .before .before .before .before .before .before .before .before .before .before .before .before .before .before .before .before .before .before .before .before .before .before .before .before .before .before .args .moves .now) refl .worked (test-true _ (c .before .before .before .before .before .before .before .before .before .before .before .before .before .before .before .before .before .before .before .before .done .ensures) (c .before .before .before .before .before .before .before .before .before .before .before .before .before .before .before .before .before .before .before .if1 .left)) in
     omega (arith, w .short)
 
 cast-t32 : tie.Need-cast-t32
 cast-t32 c =
-    let w = c .before .before .before .before .before .before .before .before .before .before .before .before .before .before .before .before .before .before .before .before .before .before .work-out .ensures (c .before .before .before .before .before .before .before .before .before .before .before .before .before .before .before .before .before .before .before .before .before .before .before .before .before .before .before .args .moves .now) refl .worked (test-true _ (c .before .before .before .before .before .before .before .before .before .before .before .before .before .before .before .before .before .before .before .before .before .done .ensures) (c .before .before .before .before .before .before .before .before .before .before .before .before .before .before .before .before .before .before .before .before .if1 .left)) in
+    let w = c .before .before .before .before .before .before .before .before .before .before .before .before .before .before .before .before .before .before .before .before .before .before .prepare .ensures (c .before .before .before .before .before .before .before .before .before .before .before .before .before .before .before .before .before .before .before .before .before .before .before .before .before .before .before .args .moves .now) refl .worked (test-true _ (c .before .before .before .before .before .before .before .before .before .before .before .before .before .before .before .before .before .before .before .before .before .done .ensures) (c .before .before .before .before .before .before .before .before .before .before .before .before .before .before .before .before .before .before .before .before .if1 .left)) in
     omega (arith, w .seatable .few)
 
 same-length-2 : tie.Need-same-length-2
@@ -61,13 +61,13 @@ same-length-3 : tie.Need-same-length-3
 same-length-3 c = search needs
 
 returns-2 : tie.Need-returns-2
-returns-2 c = enrolled-answers (c .before .before .before .before .before .before .before .before .before .before .before .before .before .before .before .before .before .before .before .before .before .before .work-out .ensures (c .before .before .before .before .before .before .before .before .before .before .before .before .before .before .before .before .before .before .before .before .before .before .before .before .before .before .before .args .moves .now) refl) (test-true _ (c .before .before .before .before .before .before .before .before .before .before .before .before .before .before .before .before .before .before .before .before .before .done .ensures) (c .before .before .before .before .before .before .before .before .before .before .before .before .before .before .before .before .before .before .before .before .if1 .left)) (c .before .before .before .before .before .before .before .before .before .before .seat-others .ensures _) _ _ (c .before .before .before .before .before .before .before .before .before .before .before .before .before .before .before .before .from-u8 .ensures) (c .before .before .before .before .before .before .before .before .before .before .before .before .before .before .before .relay-number .ensures) (c .before .before .before .before .insert-tablet .ensures)
+returns-2 c = enrolled-answers (c .before .before .before .before .before .before .before .before .before .before .before .before .before .before .before .before .before .before .before .before .before .before .prepare .ensures (c .before .before .before .before .before .before .before .before .before .before .before .before .before .before .before .before .before .before .before .before .before .before .before .before .before .before .before .args .moves .now) refl) (test-true _ (c .before .before .before .before .before .before .before .before .before .before .before .before .before .before .before .before .before .before .before .before .before .done .ensures) (c .before .before .before .before .before .before .before .before .before .before .before .before .before .before .before .before .before .before .before .before .if1 .left)) (c .before .before .before .before .before .before .before .before .before .before .seat-others .ensures _) _ _ (c .before .before .before .before .before .before .before .before .before .before .before .before .before .before .before .before .from-u8 .ensures .0) (c .before .before .before .before .before .before .before .before .before .before .before .before .before .before .before .relay-number .ensures) (c .before .before .before .before .insert-tablet .ensures)
 
 pub enrol-spec : {M : Type 1} → statement M
 enrol-spec =
     tie.close
     (tie.spec
-    work-out-requires
+    prepare-requires
     done-requires
     refused-requires
     same-length

@@ -3,14 +3,14 @@
 -- Assumes nothing.
 use Prim.Native.Nat.{ℕ, _+_, _-_, _≤_}
 use native.Mathlib.Omega.{arith}
-use Rattle.enrol.specs.Enrol.{Seated}
+use Rattle.enrol.specs.Enrol.{OthersSeated}
 use Rattle.enrol.proofs.Seating.{climbs-still, seating-start, seating-more, places-still, list-length, sat-at, seated-all}
 use borrow.Author.Needs.{needs}
 use Rattle.enrol.proofs.seat_others.Statement.{statement}
 use Rattle.enrol.proofs.seat_others.Tie as tie
 
 abbrev Inv-loop : tie.InvT-loop
-Inv-loop relays tablets₀ moves₀ m place seat others c₀ tablets moves c = (c ≤ others) × ((x : ℕ) → Seated x relays tablets₀ moves₀ place seat tablets moves m c)
+Inv-loop relays tablets₀ moves₀ m place seat others c₀ tablets moves c = (c ≤ others) × ((x : ℕ) → OthersSeated x relays tablets₀ moves₀ place seat tablets moves m c)
 
 abbrev μ-loop : tie.MeasureT-loop
 μ-loop relays tablets₀ moves₀ m place seat others c₀ tablets moves c = others - c
@@ -50,7 +50,7 @@ seat-one-requires c κs =
     let b = c .before .before .before .before .before .before .before .before .loop-test .taken in
     let s = c .before .before .before .before .before .before .before .before .before .loop .inv .1 0 in
     let r = c .before .before .before .before .before .before .before .before .before .before .before .before .before .pre in
-    (omega (arith, c .before .before .before .before .before .before .from-u16 .ensures, r .places (c .before .before .before .before .before .before .before .before .before .loop .c + 1) (omega arith) (omega arith)), places-still _ _ (s .size) (r .tablets), climbs-still (s .numbers) (r .climbs), omega (arith, c .before .before .before .before .from-u8 .ensures, r .relays (c .before .before .before .before .before .before .before .before .before .loop .c) (omega arith)), omega (arith, c .before .before .from-u82 .ensures, r .relays (c .before .before .before .before .before .before .before .before .before .loop .c + 1) (omega arith)), omega (arith, r .list, list-length _ (c .before .before .before .before .before .before .before .before .before .loop .inv .0) (r .list) s))
+    (omega (arith, c .before .before .before .before .before .before .from-u16 .ensures .0, r .places (c .before .before .before .before .before .before .before .before .before .loop .c + 1) (omega arith) (omega arith)), places-still _ _ (s .size) (r .tablets), climbs-still (s .numbers) (r .climbs), omega (arith, c .before .before .before .before .from-u8 .ensures .0, r .relays (c .before .before .before .before .before .before .before .before .before .loop .c) (omega arith)), omega (arith, c .before .before .from-u82 .ensures .0, r .relays (c .before .before .before .before .before .before .before .before .before .loop .c + 1) (omega arith)), omega (arith, r .list, list-length _ (c .before .before .before .before .before .before .before .before .before .loop .inv .0) (r .list) s))
 
 add-c : tie.Need-add-c Inv-loop μ-loop
 add-c c = omega (arith, c .before .before .before .before .before .before .before .before .before .before .before .before .before .before .before .before .before .before .pre .few, c .before .before .before .before .before .before .before .before .before .before .before .before .before .loop-test .taken)
@@ -59,7 +59,7 @@ loop-less : tie.Need-loop-less Inv-loop μ-loop
 loop-less c = omega (arith, c .before .before .before .before .before .before .before .before .before .before .before .before .before .loop-test .taken)
 
 loop-again : tie.Need-loop-again Inv-loop μ-loop
-loop-again c = (omega (arith, c .before .before .before .before .before .before .before .before .before .before .before .before .before .loop-test .taken), λ x. seating-more x _ _ _ _ _ _ _ (c .before .before .before .before .before .before .before .before .before .before .before .before .before .before .loop .inv .1 x) (omega (arith, c .before .before .before .before .before .before .before .before .before .before .before .before .before .before .before .before .before .before .pre .list, c .before .before .before .before .before .before .before .before .before .before .before .before .before .loop-test .taken)) (sat-at (c .before .before .before .before .seat-one .ensures) (c .before .before .before .before .before .before .before .before .before .before .before .from-u16 .ensures) (c .before .before .before .before .before .before .before .before .before .from-u8 .ensures) (c .before .before .before .before .before .before .before .from-u82 .ensures)))
+loop-again c = (omega (arith, c .before .before .before .before .before .before .before .before .before .before .before .before .before .loop-test .taken), λ x. seating-more x _ _ _ _ _ _ _ (c .before .before .before .before .before .before .before .before .before .before .before .before .before .before .loop .inv .1 x) (omega (arith, c .before .before .before .before .before .before .before .before .before .before .before .before .before .before .before .before .before .before .pre .list, c .before .before .before .before .before .before .before .before .before .before .before .before .before .loop-test .taken)) (sat-at (c .before .before .before .before .seat-one .ensures) (c .before .before .before .before .before .before .before .before .before .before .before .from-u16 .ensures .0) (c .before .before .before .before .before .before .before .before .before .from-u8 .ensures .0) (c .before .before .before .before .before .before .before .from-u82 .ensures .0)))
 
 same-length : tie.Need-same-length Inv-loop μ-loop
 same-length c = c .before .loop .inv .1 0 .size

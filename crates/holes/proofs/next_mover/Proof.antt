@@ -17,7 +17,7 @@ from-u8-requires : tie.Need-from-u8-requires
 from-u8-requires c κs = search needs
 
 slot-relay-requires : tie.Need-slot-relay-requires
-slot-relay-requires c κs = omega (arith, c .from-u8 .ensures, c .before .before .pre .0 .slots _ (c .before .before .pre .1))
+slot-relay-requires c κs = omega (arith, c .from-u8 .ensures .0, c .before .before .pre .0 .slots _ (c .before .before .pre .1))
 
 mul-if1 : tie.Need-mul-if1
 mul-if1 c = search needs
@@ -30,7 +30,7 @@ next-passed-requires c κs = (c .before .before .before .before .before .pre .0 
 
 returns : tie.Need-returns
 unfolding slotRoom
-returns c = next-at-once (c .before .before .before .before .before .pre .0) _ (c .before .before .before .before .before .pre .1) (omega (arith, c .if1 .taken, ap (λ (i : ℕ). getD (c .before .before .before .before .before .args .room .now) i 0) (c .before .before .slot-relay .ensures .0 ∙ ap (slotRelay (c .before .before .before .before .before .args .keys .now)) (c .before .before .before .from-u8 .ensures))))
+returns c = next-at-once (c .before .before .before .before .before .pre .0) _ (c .before .before .before .before .before .pre .1) (omega (arith, c .if1 .taken, ap (λ (i : ℕ). getD (c .before .before .before .before .before .args .room .now) i 0) (c .before .before .slot-relay .ensures .0 ∙ ap (slotRelay (c .before .before .before .before .before .args .keys .now)) (c .before .before .before .from-u8 .ensures .0))))
 
 returns-2 : tie.Need-returns-2
 returns-2 c = search needs

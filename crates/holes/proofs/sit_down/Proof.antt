@@ -26,16 +26,16 @@ from-u16-requires : tie.Need-from-u16-requires Inv-loop μ-loop
 from-u16-requires c κs = search needs
 
 tablet-number-requires : tie.Need-tablet-number-requires Inv-loop μ-loop
-tablet-number-requires c κs = omega (arith, c .before .from-u16 .ensures, c .before .before .before .before .before .before .before .pre .below _ (c .before .before .before .loop-test .taken), sit-there _ _ _ _ _ _ (c .before .before .before .before .before .before .before .pre) (c .before .before .before .before .loop .inv))
+tablet-number-requires c κs = omega (arith, c .before .from-u16 .ensures .0, c .before .before .before .before .before .before .before .pre .below _ (c .before .before .before .loop-test .taken), sit-there _ _ _ _ _ _ (c .before .before .before .before .before .before .before .pre) (c .before .before .before .before .loop .inv))
 
 tablet-relay-requires : tie.Need-tablet-relay-requires Inv-loop μ-loop
-tablet-relay-requires c κs = omega (arith, c .before .before .before .from-u16 .ensures, c .before .before .before .before .before .before .before .before .before .pre .below _ (c .before .before .before .before .before .loop-test .taken), sit-there _ _ _ _ _ _ (c .before .before .before .before .before .before .before .before .before .pre) (c .before .before .before .before .before .before .loop .inv))
+tablet-relay-requires c κs = omega (arith, c .before .before .before .from-u16 .ensures .0, c .before .before .before .before .before .before .before .before .before .pre .below _ (c .before .before .before .before .before .loop-test .taken), sit-there _ _ _ _ _ _ (c .before .before .before .before .before .before .before .before .before .pre) (c .before .before .before .before .before .before .loop .inv))
 
 list-move-requires : tie.Need-list-move-requires Inv-loop μ-loop
 list-move-requires c κs = omega (arith, c .before .before .before .before .before .before .before .loop-test .taken, c .before .before .before .before .before .before .before .before .before .before .before .pre .long, sit-long _ _ _ _ _ _ (c .before .before .before .before .before .before .before .before .before .before .before .pre) (c .before .before .before .before .before .before .before .before .loop .inv))
 
 seat-tablet-requires : tie.Need-seat-tablet-requires Inv-loop μ-loop
-seat-tablet-requires c κs = (omega (arith, c .before .before .before .before .before .before .before .before .before .from-u16 .ensures, c .before .before .before .before .before .before .before .before .before .before .before .before .before .before .before .pre .below _ (c .before .before .before .before .before .before .before .before .before .before .before .loop-test .taken)), sit-there _ _ _ _ _ _ (c .before .before .before .before .before .before .before .before .before .before .before .before .before .before .before .pre) (c .before .before .before .before .before .before .before .before .before .before .before .before .loop .inv), sit-climbs _ _ _ _ _ _ (c .before .before .before .before .before .before .before .before .before .before .before .before .before .before .before .pre) (c .before .before .before .before .before .before .before .before .before .before .before .before .loop .inv))
+seat-tablet-requires c κs = (omega (arith, c .before .before .before .before .before .before .before .before .before .from-u16 .ensures .0, c .before .before .before .before .before .before .before .before .before .before .before .before .before .before .before .pre .below _ (c .before .before .before .before .before .before .before .before .before .before .before .loop-test .taken)), sit-there _ _ _ _ _ _ (c .before .before .before .before .before .before .before .before .before .before .before .before .before .before .before .pre) (c .before .before .before .before .before .before .before .before .before .before .before .before .loop .inv), sit-climbs _ _ _ _ _ _ (c .before .before .before .before .before .before .before .before .before .before .before .before .before .before .before .pre) (c .before .before .before .before .before .before .before .before .before .before .before .before .loop .inv))
 
 add-c : tie.Need-add-c Inv-loop μ-loop
 add-c c = omega (arith, c .before .before .before .before .before .before .before .before .before .before .before .before .before .before .loop-test .taken, c .before .before .before .before .before .before .before .before .before .before .before .before .before .before .before .before .before .before .pre .few)
@@ -44,7 +44,7 @@ loop-less : tie.Need-loop-less Inv-loop μ-loop
 loop-less c = omega (arith, c .before .before .before .before .before .before .before .before .before .before .before .before .before .before .loop-test .taken)
 
 loop-again : tie.Need-loop-again Inv-loop μ-loop
-loop-again c = sit-on _ _ _ _ _ _ (c .before .before .before .before .before .before .before .before .before .before .before .before .before .before .before .before .before .before .pre) (c .before .before .before .before .before .before .before .before .before .before .before .before .before .before .before .loop .inv) (c .before .before .before .before .before .before .before .before .before .before .before .before .before .before .loop-test .taken) (c .before .before .before .before .before .before .before .before .before .before .before .before .from-u16 .ensures) (c .before .before .before .before .before .before .before .before .before .before .tablet-number .ensures) (c .before .before .before .before .before .before .before .before .tablet-relay .ensures) (c .before .before .before .before .before .before .list-move .ensures) (c .before .before .seat-tablet .ensures)
+loop-again c = sit-on _ _ _ _ _ _ (c .before .before .before .before .before .before .before .before .before .before .before .before .before .before .before .before .before .before .pre) (c .before .before .before .before .before .before .before .before .before .before .before .before .before .before .before .loop .inv) (c .before .before .before .before .before .before .before .before .before .before .before .before .before .before .loop-test .taken) (c .before .before .before .before .before .before .before .before .before .before .before .before .from-u16 .ensures .0) (c .before .before .before .before .before .before .before .before .before .before .tablet-number .ensures) (c .before .before .before .before .before .before .before .before .tablet-relay .ensures) (c .before .before .before .before .before .before .list-move .ensures) (c .before .before .seat-tablet .ensures)
 
 same-length : tie.Need-same-length Inv-loop μ-loop
 same-length c = omega (arith, c .before .loop .inv .size)

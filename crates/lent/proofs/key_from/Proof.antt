@@ -5,8 +5,8 @@ use borrow.Author.Needs.{needs}
 use Rattle.lent.proofs.key_from.Statement.{statement}
 use Rattle.lent.proofs.key_from.Tie as tie
 
-distance-requires : tie.Need-distance-requires
-distance-requires c κs = search needs
+clockwise-requires : tie.Need-clockwise-requires
+clockwise-requires c κs = search needs
 
 cast-result : tie.Need-cast-result
 cast-result c = search needs
@@ -22,4 +22,4 @@ unfolding keyFrom
 returns c = omega arith
 
 pub key-from-spec : {M : Type 1} → statement M
-key-from-spec = tie.close (tie.spec distance-requires cast-result mul-result add-result returns)
+key-from-spec = tie.close (tie.spec clockwise-requires cast-result mul-result add-result returns)

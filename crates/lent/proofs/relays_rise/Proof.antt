@@ -3,7 +3,8 @@
 use mathlib.Core.Path.{_≡_, refl}
 use Prim.Native.Nat.{_-_, _≤_}
 use Rattle.lent.specs.Table.{relayNumber, relayLimit}
-use Rattle.lent.specs.Shape.{all, previous, entryAt, topLimit}
+use Rattle.rule.specs.Rule.{mostLimit}
+use Rattle.lent.specs.Shape.{all, previous, entryAt}
 use Rattle.lent.proofs.Loops.{at-end}
 use Rattle.lent.proofs.Shape.{previous-more, entry-more}
 use native.Mathlib.Omega.{arith}
@@ -11,7 +12,7 @@ use Rattle.lent.proofs.relays_rise.Statement.{statement}
 use Rattle.lent.proofs.relays_rise.Tie as tie
 
 abbrev Inv-loop : tie.InvT-loop
-Inv-loop relays n ok₀ before₀ i₀ ok before i = (i ≤ n) × (before ≡ previous (relayNumber relays) i) × (ok ≡ all (entryAt topLimit (relayNumber relays) (relayLimit relays)) i)
+Inv-loop relays n ok₀ before₀ i₀ ok before i = (i ≤ n) × (before ≡ previous (relayNumber relays) i) × (ok ≡ all (entryAt mostLimit (relayNumber relays) (relayLimit relays)) i)
 
 abbrev μ-loop : tie.MeasureT-loop
 μ-loop relays n ok₀ before₀ i₀ ok before i = n - i

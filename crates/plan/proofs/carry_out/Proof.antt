@@ -22,7 +22,7 @@ from-u8-requires : tie.Need-from-u8-requires Inv-loop μ-loop
 from-u8-requires c κs = tt
 
 move-one-requires : tie.Need-move-one-requires Inv-loop μ-loop
-move-one-requires c κs = carrying-moves (c .before .before .before .before .before .before .before .before .before .pre) (c .before .before .before .before .loop-test .taken) (c .before .before .before .before .before .loop .inv .1) (c .before .before .from-u8 .ensures)
+move-one-requires c κs = carrying-moves (c .before .before .before .before .before .before .before .before .before .pre) (c .before .before .before .before .loop-test .taken) (c .before .before .before .before .before .loop .inv .1) (c .before .before .from-u8 .ensures .0)
 
 add-j : tie.Need-add-j Inv-loop μ-loop
 add-j c = omega (arith, c .before .before .before .before .before .before .before .before .before .loop-test .taken, c .before .before .before .before .before .before .before .before .before .before .before .before .before .before .pre .seated .tablets .few)
@@ -31,7 +31,7 @@ loop-less : tie.Need-loop-less Inv-loop μ-loop
 loop-less c = omega (arith, c .before .before .before .before .before .before .before .before .before .loop-test .taken)
 
 loop-again : tie.Need-loop-again Inv-loop μ-loop
-loop-again c = (omega (arith, c .before .before .before .before .before .before .before .before .before .loop-test .taken), carrying-more (c .before .before .before .before .before .before .before .before .before .before .before .before .before .before .pre) (c .before .before .before .before .before .before .before .before .before .loop-test .taken) (c .before .before .before .before .before .before .before .before .before .before .loop .inv .1) (c .before .before .before .before .before .before .before .from-u8 .ensures) (c .before .before .before .before .move-one .ensures))
+loop-again c = (omega (arith, c .before .before .before .before .before .before .before .before .before .loop-test .taken), carrying-more (c .before .before .before .before .before .before .before .before .before .before .before .before .before .before .pre) (c .before .before .before .before .before .before .before .before .before .loop-test .taken) (c .before .before .before .before .before .before .before .before .before .before .loop .inv .1) (c .before .before .before .before .before .before .before .from-u8 .ensures .0) (c .before .before .before .before .move-one .ensures))
 
 same-length : tie.Need-same-length Inv-loop μ-loop
 same-length c = c .before .loop .inv .1 .size

@@ -1,7 +1,8 @@
 -- `relay_edit::find_relay` meets its contract: the look's refusal, and past it the relay's place among ascending numbers. Assumes nothing.
 use mathlib.Core.Path.{refl, sym, _∙_}
-use Rattle.ring.proofs.Tests.{not-false, true-false}
-use Rattle.look.proofs.Checked.{words-of, not-true}
+use borrow.Author.Tests.{not-true, not-false}
+use Rattle.ring.proofs.Tests.{true-false}
+use Rattle.look.proofs.Checked.{words-of}
 use Rattle.look.proofs.Refusing.{start-rises}
 use borrow.Author.Needs.{needs}
 use Rattle.relay_edit.proofs.find_relay.Statement.{statement}
@@ -22,7 +23,7 @@ returns c =
       refusal = c .before .before .before .look .ensures .refusal;
       relayWords = words-of _ (c .before .before .before .before .before .shared-slice-known .given);
       tabletWords = words-of _ (c .before .before .before .before .shared-slice-known2 .given);
-      stands = λ d. absurd (true-false (sym d ∙ sym (c .before .before .done .ensures) ∙ not-true (c .before .if1 .taken)));
+      stands = λ d. absurd (true-false (sym d ∙ sym (c .before .before .done .ensures) ∙ not-true _ (c .before .if1 .taken)));
     }
 
 relay-spot-requires : tie.Need-relay-spot-requires

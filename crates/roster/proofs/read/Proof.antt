@@ -10,8 +10,8 @@ use Rattle.roster.proofs.read.Tie as tie
 open-requires : tie.Need-open-requires
 open-requires c κs = search needs
 
-barred-requires : tie.Need-barred-requires
-barred-requires c κs = search needs
+early-refusal-requires : tie.Need-early-refusal-requires
+early-refusal-requires c κs = search needs
 
 done-requires : tie.Need-done-requires
 done-requires c κs = search needs
@@ -26,13 +26,13 @@ same-length-2 : tie.Need-same-length-2
 same-length-2 c = search needs
 
 returns : tie.Need-returns
-returns c = open-refused _ _ _ (c .before .before .before .before .before .before .«open» .ensures) (c .before .before .before .barred .ensures) (c .before .before .done .ensures) (c .before .if1 .taken) (c .refused .ensures)
+returns c = open-refused _ _ _ (c .before .before .before .before .before .before .«open» .ensures) (c .before .before .before .early-refusal .ensures) (c .before .before .done .ensures) (c .before .if1 .taken) (c .refused .ensures)
 
 mul-relays-end : tie.Need-mul-relays-end
-mul-relays-end c = omega (arith, open-few (open-done _ _ _ (c .before .before .before .before .before .«open» .ensures) (c .before .before .barred .ensures) (c .before .done .ensures) (c .if1 .left)) .0)
+mul-relays-end c = omega (arith, open-few (open-done _ _ _ (c .before .before .before .before .before .«open» .ensures) (c .before .before .early-refusal .ensures) (c .before .done .ensures) (c .if1 .left)) .0)
 
 mul-tablets-end : tie.Need-mul-tablets-end
-mul-tablets-end c = omega (arith, open-few (open-done _ _ _ (c .before .before .before .before .before .«open» .ensures) (c .before .before .barred .ensures) (c .before .done .ensures) (c .if1 .left)) .1)
+mul-tablets-end c = omega (arith, open-few (open-done _ _ _ (c .before .before .before .before .before .«open» .ensures) (c .before .before .early-refusal .ensures) (c .before .done .ensures) (c .if1 .left)) .1)
 
 sub-take-over : tie.Need-sub-take-over
 sub-take-over c = search needs
@@ -41,7 +41,7 @@ part-own-relays-start : tie.Need-part-own-relays-start
 part-own-relays-start c = search needs
 
 part-own-relays-end : tie.Need-part-own-relays-end
-part-own-relays-end c = omega (arith, open-few (open-done _ _ _ (c .before .before .before .before .before .«open» .ensures) (c .before .before .barred .ensures) (c .before .done .ensures) (c .if1 .left)) .0)
+part-own-relays-end c = omega (arith, open-few (open-done _ _ _ (c .before .before .before .before .before .«open» .ensures) (c .before .before .early-refusal .ensures) (c .before .done .ensures) (c .if1 .left)) .0)
 
 sub-take-over-2 : tie.Need-sub-take-over-2
 sub-take-over-2 c = search needs
@@ -50,11 +50,11 @@ part-own-tablets-start : tie.Need-part-own-tablets-start
 part-own-tablets-start c = search needs
 
 part-own-tablets-end : tie.Need-part-own-tablets-end
-part-own-tablets-end c = omega (arith, open-few (open-done _ _ _ (c .before .before .before .before .before .before .«open» .ensures) (c .before .before .before .barred .ensures) (c .before .before .done .ensures) (c .before .if1 .left)) .1)
+part-own-tablets-end c = omega (arith, open-few (open-done _ _ _ (c .before .before .before .before .before .before .«open» .ensures) (c .before .before .before .early-refusal .ensures) (c .before .before .done .ensures) (c .before .if1 .left)) .1)
 
 take-over-requires : tie.Need-take-over-requires
 take-over-requires c κs =
-    let o = open-done _ _ _ (c .before .before .before .before .before .before .before .before .before .«open» .ensures) (c .before .before .before .before .before .before .barred .ensures) (c .before .before .before .before .before .done .ensures) (c .before .before .before .before .if1 .left) in
+    let o = open-done _ _ _ (c .before .before .before .before .before .before .before .before .before .«open» .ensures) (c .before .before .before .before .before .before .early-refusal .ensures) (c .before .before .before .before .before .done .ensures) (c .before .before .before .before .if1 .left) in
     (o .known, open-room o (scratch-size 512 0 _ (open-few o .0)) (scratch-size 8192 0 _ (open-few o .1)))
 
 refused-requires-2 : tie.Need-refused-requires-2
@@ -67,7 +67,7 @@ same-length-4 : tie.Need-same-length-4
 same-length-4 c = search needs
 
 returns-2 : tie.Need-returns-2
-returns-2 c = over-wrong (open-done _ _ _ (c .before .before .before .before .before .before .before .before .before .before .before .before .before .before .before .before .before .before .«open» .ensures) (c .before .before .before .before .before .before .before .before .before .before .before .before .before .before .before .barred .ensures) (c .before .before .before .before .before .before .before .before .before .before .before .before .before .before .done .ensures) (c .before .before .before .before .before .before .before .before .before .before .before .before .before .if1 .left)) (c .before .before .before .before .before .before .before .before .take-over .ensures) (c .before .if2 .taken) (c .refused2 .ensures)
+returns-2 c = over-wrong (open-done _ _ _ (c .before .before .before .before .before .before .before .before .before .before .before .before .before .before .before .before .before .before .«open» .ensures) (c .before .before .before .before .before .before .before .before .before .before .before .before .before .before .before .early-refusal .ensures) (c .before .before .before .before .before .before .before .before .before .before .before .before .before .before .done .ensures) (c .before .before .before .before .before .before .before .before .before .before .before .before .before .if1 .left)) (c .before .before .before .before .before .before .before .before .take-over .ensures) (c .before .if2 .taken) (c .refused2 .ensures)
 
 refused-requires-3 : tie.Need-refused-requires-3
 refused-requires-3 c κs = search needs
@@ -79,14 +79,14 @@ same-length-6 : tie.Need-same-length-6
 same-length-6 c = search needs
 
 returns-3 : tie.Need-returns-3
-returns-3 c = over-right (open-done _ _ _ (c .before .before .before .before .before .before .before .before .before .before .before .before .before .before .before .before .before .before .«open» .ensures) (c .before .before .before .before .before .before .before .before .before .before .before .before .before .before .before .barred .ensures) (c .before .before .before .before .before .before .before .before .before .before .before .before .before .before .done .ensures) (c .before .before .before .before .before .before .before .before .before .before .before .before .before .if1 .left)) (c .before .before .before .before .before .before .before .before .take-over .ensures) (c .before .if2 .left) (c .refused3 .ensures) refl
+returns-3 c = over-right (open-done _ _ _ (c .before .before .before .before .before .before .before .before .before .before .before .before .before .before .before .before .before .before .«open» .ensures) (c .before .before .before .before .before .before .before .before .before .before .before .before .before .before .before .early-refusal .ensures) (c .before .before .before .before .before .before .before .before .before .before .before .before .before .before .done .ensures) (c .before .before .before .before .before .before .before .before .before .before .before .before .before .if1 .left)) (c .before .before .before .before .before .before .before .before .take-over .ensures) (c .before .if2 .left) (c .refused3 .ensures) refl
 
 pub read-spec : {M : Type 1} → statement M
 read-spec =
     tie.close
     (tie.spec
     open-requires
-    barred-requires
+    early-refusal-requires
     done-requires
     refused-requires
     same-length

@@ -1,8 +1,8 @@
 -- `seat::seat_of` meets its contract: a tablet that is not refused for its number stands at the place that a search found. Assumes nothing.
 use mathlib.Core.Path.{sym, ap, _∙_}
 use native.Mathlib.Omega.{arith}
-use Rattle.ring.proofs.Tests.{not-false, true-false}
-use Rattle.look.proofs.Checked.{not-true}
+use borrow.Author.Tests.{not-true, not-false}
+use Rattle.ring.proofs.Tests.{true-false}
 use Rattle.slots.proofs.Steps.{steps-inside}
 use Rattle.spot.specs.Spot.{missing}
 use Rattle.spot.proofs.There.{spot-is}
@@ -23,7 +23,7 @@ done-requires : tie.Need-done-requires
 done-requires c κs = search needs
 
 returns : tie.Need-returns
-returns c = record { refusal = c .before .before .missing .ensures ∙ ap (missing _) (c .before .before .before .tablet-there .ensures); found = λ d. absurd (true-false (sym d ∙ sym (c .before .done .ensures) ∙ not-true (c .if1 .taken))) }
+returns c = record { refusal = c .before .before .missing .ensures ∙ ap (missing _) (c .before .before .before .tablet-there .ensures); found = λ d. absurd (true-false (sym d ∙ sym (c .before .done .ensures) ∙ not-true _ (c .if1 .taken))) }
 
 element-copy-out-steps-to : tie.Need-element-copy-out-steps-to
 element-copy-out-steps-to c =

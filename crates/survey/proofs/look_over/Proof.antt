@@ -8,11 +8,12 @@ use native.Mathlib.Omega.{arith}
 use borrow.Author.Tests.{not-true, not-false, ltb-true}
 use lib.Dec.{ltb}
 use lib.ListN.{getD}
+use Rattle.ring.proofs.Tests.{and-left}
 use Rattle.ring.specs.Scheme.{positions}
 use Rattle.lent.specs.Table.{mostTablets, tabletNumber}
 use Rattle.lent.specs.Shape.{all}
 use Rattle.lent.specs.Placing.{placedAt, placed}
-use Rattle.lent.proofs.Loops.{at-end, all-more, all-false, both-left}
+use Rattle.lent.proofs.Loops.{at-end, all-more, all-false}
 use Rattle.order.specs.Home.{keyAt, Begins}
 use Rattle.order.proofs.Home.{begins-none, home-at}
 use Rattle.survey.specs.Seats.{Surveyed}
@@ -56,7 +57,7 @@ beside c = seat-right (seat (c .before .before)) (c .stands-beside .ensures)
 
 -- where it is, the relay has room
 opens : (c : tie.Else1 Inv-loop μ-loop) → 0 < getD (c .before .before .before .before .before .before .before .before .before .before .before .before .before .loop .room) (c .before .before .before .slot-relay .result) 0
-opens c = ltb-true _ _ (both-left (ltb 0 (getD (c .before .before .before .before .before .before .before .before .before .before .before .before .before .loop .room) (c .before .before .before .slot-relay .result) 0)) _ (sym (c .before .stands-beside .ensures) ∙ not-false _ (c .if1 .left)))
+opens c = ltb-true _ _ (and-left (ltb 0 (getD (c .before .before .before .before .before .before .before .before .before .before .before .before .before .loop .room) (c .before .before .before .slot-relay .result) 0)) _ (sym (c .before .stands-beside .ensures) ∙ not-false _ (c .if1 .left)))
 
 relay-positions-requires : tie.Need-relay-positions-requires Inv-loop μ-loop
 relay-positions-requires c κs = omega arith
@@ -67,8 +68,8 @@ ring-order-requires c κs = c .before .before .before .before .pre .0 .few
 in-turn-requires : tie.Need-in-turn-requires Inv-loop μ-loop
 in-turn-requires c κs = tt
 
-starts-requires : tie.Need-starts-requires Inv-loop μ-loop
-starts-requires c κs = (c .before .before .before .before .before .before .before .pre .0 .few, c .before .before .ring-order .ensures .rises)
+arc-starts-requires : tie.Need-arc-starts-requires Inv-loop μ-loop
+arc-starts-requires c κs = (c .before .before .before .before .before .before .before .pre .0 .few, c .before .before .ring-order .ensures .rises)
 
 relay-limits-requires : tie.Need-relay-limits-requires Inv-loop μ-loop
 relay-limits-requires c κs = omega arith
@@ -88,7 +89,7 @@ tablet-at-requires : tie.Need-tablet-at-requires Inv-loop μ-loop
 tablet-at-requires c κs = tt
 
 home-of-requires : tie.Need-home-of-requires Inv-loop μ-loop
-home-of-requires c κs = (c .before .before .before .before .before .before .before .before .before .before .before .before .before .before .before .before .before .before .pre .0 .few, c .before .before .before .before .before .before .before .before .before .before .before .before .before .ring-order .ensures .rises, c .before .before .before .before .before .before .before .before .before .before .starts .ensures, c .before .before .before .before .before .loop .inv .3)
+home-of-requires c κs = (c .before .before .before .before .before .before .before .before .before .before .before .before .before .before .before .before .before .before .pre .0 .few, c .before .before .before .before .before .before .before .before .before .before .before .before .before .ring-order .ensures .rises, c .before .before .before .before .before .before .before .before .before .before .arc-starts .ensures, c .before .before .before .before .before .loop .inv .3)
 
 led-to-requires : tie.Need-led-to-requires Inv-loop μ-loop
 led-to-requires c κs = tt
@@ -161,7 +162,7 @@ look-over-spec =
     relay-positions-requires
     ring-order-requires
     in-turn-requires
-    starts-requires
+    arc-starts-requires
     relay-limits-requires
     first-row-requires
     loop-holds

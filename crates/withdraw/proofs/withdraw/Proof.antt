@@ -3,7 +3,7 @@
 use native.Mathlib.Omega.{arith}
 use Rattle.look.proofs.Checked.{words-of}
 use Rattle.look.proofs.Ways.{look-start, look-answers}
-use Rattle.seat.proofs.Passing.{start-seated}
+use Rattle.seat.proofs.Passing.{start-slotted}
 use Rattle.seat.proofs.Standing.{missing-withdraw, seat-refused}
 use Rattle.withdraw.proofs.Known.{start-sweeps}
 use Rattle.withdraw.proofs.Withdrawing.{stands, withdraw-short, withdraw-fillers, withdraw-done}
@@ -27,7 +27,7 @@ returns : tie.Need-returns
 returns c = look-answers (c .before .before .before .look .ensures) (c .before .before .done .ensures) (words-of _ (c .before .before .before .before .before .before .before .shared-slice-known .given)) (words-of _ (c .before .before .before .before .before .before .slice-known .given)) (c .before .if1 .taken) (c .refused .ensures) _ _
 
 seat-of-requires : tie.Need-seat-of-requires
-seat-of-requires c κs = start-seated (look-start (c .before .before .before .before .before .before .look .ensures) (c .before .before .before .before .before .done .ensures) (c .before .before .before .before .if1 .left))
+seat-of-requires c κs = start-slotted (look-start (c .before .before .before .before .before .before .look .ensures) (c .before .before .before .before .before .done .ensures) (c .before .before .before .before .if1 .left))
 
 done-requires-2 : tie.Need-done-requires-2
 done-requires-2 c κs = search needs

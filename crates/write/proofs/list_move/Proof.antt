@@ -3,7 +3,7 @@ use native.Mathlib.Numerals.{add-one, add-two}
 use native.Mathlib.Omega.{arith}
 use borrow.Author.Needs.{needs}
 use lib.ListN.{length-set}
-use Rattle.write.specs.Listing.{moveAt}
+use Rattle.write.specs.Listing.{setMove}
 use Rattle.write.proofs.list_move.Statement.{statement}
 use Rattle.write.proofs.list_move.Tie as tie
 
@@ -44,7 +44,7 @@ same-length : tie.Need-same-length
 same-length c = search needs
 
 returns : tie.Need-returns
-unfolding moveAt
+unfolding setMove
 returns c = rw (add-one, add-two)
 
 pub list-move-spec : {M : Type 1} → statement M
