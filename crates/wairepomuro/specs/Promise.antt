@@ -38,7 +38,7 @@ pub record Serves (s : ℕ) (rs ts ms tally : List ℕ) (c : Call) (answer : ℕ
   pub counted : tally′ ≡ tallied tally c (after s rs ts ms c .reply)
 
 -- the number answered, and the limit
-pub record Balances (p q tablets relays answer out : ℕ) : Type 0 where
+pub record Shares (p q tablets relays answer out : ℕ) : Type 0 where
   pub answered : answer ≡ numberOf (balance p q tablets relays .refusal)
   pub limit : out ≡ balance p q tablets relays .limit
 
@@ -48,7 +48,7 @@ pub record Lays (s : ℕ) (rs ts lent : List ℕ) (answer : ℕ) (lent′ : List
   pub sheet : lent′ ≡ Sheet.after s rs ts lent .sheet
 
 -- the length answered, and the start: those of the part of the lent sheet
-pub record Bounds (s : ℕ) (rs ts lent : List ℕ) (relay answer out : ℕ) : Type 0 where
+pub record Spans (s : ℕ) (rs ts lent : List ℕ) (relay answer out : ℕ) : Type 0 where
   pub length : answer ≡ stretchOf s rs ts lent relay .len
   pub start : out ≡ stretchOf s rs ts lent relay .start
 

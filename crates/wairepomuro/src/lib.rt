@@ -5,7 +5,7 @@ ghost use mathlib.Core.Path.{_≡_};
 ghost use Prim.Native.Nat.{ℕ};
 ghost use Rattle.rule.specs.declared.Call.the-variants.{Add, Remove, Set, Enrol, Withdraw, Find};
 ghost use Rattle.rule.specs.Refusals.{numberOf};
-ghost use Rattle.wairepomuro.specs.Promise.{tablesRefusal, replyNumbers, Serves, Balances, Lays, Bounds, Reads};
+ghost use Rattle.wairepomuro.specs.Promise.{tablesRefusal, replyNumbers, Serves, Shares, Lays, Spans, Reads};
 
 // Are these right tables? Answers with the number of the refusal that every call would give for them: 0, 1 or 2.
 #[no_mangle]
@@ -151,7 +151,7 @@ pub extern "C" fn wairepomuro_balance(
     relays: u32,
     limit: &mut u32,
 ) -> u32
-    ensures { λ x. ⌜ Balances p q tablets relays x (now (limit .exit)) ⌝ }
+    ensures { λ x. ⌜ Shares p q tablets relays x (now (limit .exit)) ⌝ }
 {
     let b = balance::balance(p, q, tablets, relays);
     *limit = b.limit;
@@ -185,7 +185,7 @@ pub extern "C" fn wairepomuro_stretch(
     relay: u32,
     start: &mut usize,
 ) -> usize
-    ensures { λ x. ⌜ Bounds scheme (now (relays .entry)) (now (tablets .entry)) (now (sheet .entry)) relay x (now (start .exit)) ⌝ }
+    ensures { λ x. ⌜ Spans scheme (now (relays .entry)) (now (tablets .entry)) (now (sheet .entry)) relay x (now (start .exit)) ⌝ }
 {
     let r = ring::RelayNumber(relay);
     let span = stretch::bounds(scheme, relays, tablets, sheet, r);
