@@ -1,7 +1,8 @@
 -- Bytes put into a slice one after the other.
---   puts-nothing, puts-one, puts-none    nothing, one byte, one byte where there is no room
---   puts-text, puts-append               the same text, one text behind another
---   puts-within, puts-length             the place behind is in the slice, whose length stays
+--   puts-one                    the promise binds: two slices, and two places behind, that it allows are equal
+--   puts-nothing, puts-none     nothing, and one byte where there is no room
+--   puts-text, puts-append      the same text, one text behind another
+--   puts-within, puts-length    the place behind is in the slice, whose length stays
 -- Assumes nothing.
 use mathlib.Core.List.{List, [], _∷_, _++_}
 use mathlib.Core.Path.{_≡_, refl, sym, ap, _∙_}
@@ -25,11 +26,11 @@ sets-out : (vs l : List ℕ) (i : ℕ) → length l ≤ i → sets l i vs ≡ l
 sets-out [] l i h = refl
 sets-out (a ∷ vs) l i h = sets-out vs (set l i a) (suc i) (omega (arith, length-set l i a)) ∙ set-out l i a h
 
+pub puts-one : {l : List ℕ} {at : ℕ} {s m m′ : List ℕ} {n n′ : ℕ} → Puts l at s m n → Puts l at s m′ n′ → (m ≡ m′) × (n ≡ n′)
+puts-one p q = (p .places ∙ sym (q .places), p .behind ∙ sym (q .behind))
+
 pub puts-nothing : (l : List ℕ) {at : ℕ} → at ≤ length l → Puts l at [] l at
 puts-nothing l h = record { places = refl; behind = omega arith }
-
-pub puts-one : (l : List ℕ) {at : ℕ} (b : ℕ) → at < length l → Puts l at (b ∷ []) (set l at b) (at + 1)
-puts-one l b h = record { places = refl; behind = omega arith }
 
 pub puts-none : (l : List ℕ) {at : ℕ} (b : ℕ) → at ≤ length l → length l ≤ at → Puts l at (b ∷ []) l at
 puts-none l {at} b h k = record { places = sym (set-out l at b k); behind = omega arith }

@@ -1,6 +1,6 @@
--- From a call's own promise to that of the C interface (`answers-serves`), and that the promise binds (`serves-one`). Assumes nothing.
+-- From a call's own promise to that of the C interface (`answers-serves`). Assumes nothing.
 use mathlib.Core.List.{List}
-use mathlib.Core.Path.{_≡_, sym, ap, _∙_}
+use mathlib.Core.Path.{_≡_, ap, _∙_}
 use Prim.Native.Nat.{ℕ}
 use Rattle.rule.specs.declared.Call.{Call}
 use Rattle.rule.specs.declared.Reply.{Reply}
@@ -20,26 +20,4 @@ module _ {s : ℕ} {rs ts ms tally : List ℕ} {c : Call} where
         tablets = a .tablets;
         moves = a .moves;
         counted = t ∙ ap (λ (r : Reply). tallied tally c r) (a .reply);
-      }
-
--- two answers and two sets of lent lists that the promise allows are equal
-pub record Same (x x′ : ℕ) (reply reply′ rs rs′ ts ts′ ms ms′ tally tally′ : List ℕ) : Type 0 where
-  pub answered : x ≡ x′
-  pub replied : reply ≡ reply′
-  pub relays : rs ≡ rs′
-  pub tablets : ts ≡ ts′
-  pub moves : ms ≡ ms′
-  pub counted : tally ≡ tally′
-
-module _ {s : ℕ} {rs ts ms tally : List ℕ} {c : Call} where
-  pub serves-one : {x y : ℕ} {a b rs₁ rs₂ ts₁ ts₂ ms₁ ms₂ t₁ t₂ : List ℕ} → Serves s rs ts ms tally c x a rs₁ ts₁ ms₁ t₁
-      → Serves s rs ts ms tally c y b rs₂ ts₂ ms₂ t₂ → Same x y a b rs₁ rs₂ ts₁ ts₂ ms₁ ms₂ t₁ t₂
-  serves-one p q =
-      record {
-        answered = p .answered ∙ sym (q .answered);
-        replied = p .replied ∙ sym (q .replied);
-        relays = p .relays ∙ sym (q .relays);
-        tablets = p .tablets ∙ sym (q .tablets);
-        moves = p .moves ∙ sym (q .moves);
-        counted = p .counted ∙ sym (q .counted);
       }
