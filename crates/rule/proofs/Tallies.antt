@@ -94,7 +94,7 @@ run-going p s (c ∷ cs) g =
 -- an accepted call changes the number of tablets as it is counted
 edited-length : (p : Positions) (m : Lent) (g : Ring) (c : Call) → Right p g → isDone (firstBar (wrongNumbers m g c)) ≡ true
     → length (edited g c .tablets) + withdrawals c ≡ length (g .tablets) + enrolments c
-unfolding edited enrolments withdrawals wrongNumbers isDone
+unfolding edited wrongNumbers isDone
 edited-length p m g (Add r l) ok h = refl
 edited-length p m g (Remove r) ok h = refl
 edited-length p m g (Set r l) ok h = refl

@@ -18,7 +18,7 @@ mostCounted = 4294967295
 unfoldable pub more : ℕ → ℕ → ℕ
 more count by = min (count + by) mostCounted
 
-unfoldable pub enrolments : Call → ℕ
+abbrev pub enrolments : Call → ℕ
 enrolments (Add r limit) = 0
 enrolments (Remove r) = 0
 enrolments (Set r limit) = 0
@@ -26,7 +26,7 @@ enrolments (Enrol t) = 1
 enrolments (Withdraw t) = 0
 enrolments (Find t) = 0
 
-unfoldable pub withdrawals : Call → ℕ
+abbrev pub withdrawals : Call → ℕ
 withdrawals (Add r limit) = 0
 withdrawals (Remove r) = 0
 withdrawals (Set r limit) = 0
