@@ -1,5 +1,5 @@
--- What the trailer of any bytes says: is the shape right, the counts and the scheme. Bytes that are too short for a trailer say nothing.
--- Assumes nothing.
+-- What the trailer of any bytes says (document 01, "Roster file"): is the shape right, the counts and the scheme. Bytes that are too short for a
+-- trailer say nothing. Assumes nothing.
 use mathlib.Core.Bool.{true, false}
 use mathlib.Core.List.{List}
 use Prim.Native.Nat.{ℕ}

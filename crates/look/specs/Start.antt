@@ -1,4 +1,5 @@
--- What every call starts from: the first two refusals, and what the check of right tables has found. Assumes nothing.
+-- What every call starts from (document 01, "Replies", "The lent tables"): the first two refusals, and what the check of right tables has found.
+-- Assumes nothing.
 use mathlib.Core.Bool.{Bool, true, false, not}
 use mathlib.Core.List.{List, [], _∷_}
 use mathlib.Core.Path.{_≡_}

@@ -1,4 +1,4 @@
--- What the parts of a reading promise one another. Assumes nothing.
+-- What the parts of a reading promise one another (document 01, "Roster file", "Replies"). Assumes nothing.
 use mathlib.Core.Bool.{Bool, not, _&&_, cond}
 use mathlib.Core.List.{List, [], _∷_}
 use mathlib.Core.Path.{_≡_}

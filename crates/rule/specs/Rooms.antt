@@ -1,5 +1,5 @@
--- The rule told by the room that is left, as the loops of the library keep it: `key t r` is less where relay r stands earlier in the order of
--- tablet t. The law `placement-fill` says that it is the same rule. Assumes nothing.
+-- The rule told by the room that is left (document 01, "The rule of placement"), as the loops of the library keep it: `key t r` is less where
+-- relay r stands earlier in the order of tablet t. The law `placement-fill` says that it is the same rule. Assumes nothing.
 use mathlib.Core.Bool.{_&&_, cond}
 use mathlib.Core.List.{List, [], _∷_}
 use mathlib.Core.Option.{Option, none, some}

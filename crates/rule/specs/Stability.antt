@@ -1,6 +1,6 @@
--- What it means that no tablet could sit earlier: each has the first relay of its order that the lower numbers leave it. The laws
--- `right-stable` and `stable-right` say that this is the rule. Over any preference: `key t r` is less where relay r stands earlier in
--- the order of tablet t. Assumes nothing.
+-- What it means that no tablet could sit earlier (document 01, "The rule of placement"): each has the first relay of its order that the lower
+-- numbers leave it. The laws `right-stable` and `stable-right` say that this is the rule. Over any preference: `key t r` is less where relay r
+-- stands earlier in the order of tablet t. Assumes nothing.
 use mathlib.Core.Bool.{Bool, true, false, _&&_}
 use mathlib.Core.List.{List, [], _∷_}
 use mathlib.Core.Logic.{_⊎_}

@@ -1,5 +1,5 @@
--- The walks of an enrolment and of a withdrawal in one sweep each, as the loops of the library make them. The laws `turn-placement` and
--- `holes-placement` say that they end in the rule's placement. Assumes nothing.
+-- The walks of an enrolment and of a withdrawal (document 01, "The rule of placement") in one sweep each, as the loops of the library make them.
+-- The laws `turn-placement` and `holes-placement` say that they end in the rule's placement. Assumes nothing.
 use mathlib.Core.Bool.{true, false}
 use mathlib.Core.List.{List, [], _∷_, _++_}
 use Prim.Native.Nat.{ℕ}

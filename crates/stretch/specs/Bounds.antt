@@ -1,4 +1,4 @@
--- A stretch as the two indices that bound it. Assumes nothing.
+-- A stretch as the two indices that bound it (document 01, "Sheet, balance, tally"). Assumes nothing.
 use mathlib.Core.Path.{_≡_}
 use Prim.Native.Nat.{ℕ, _-_, _≤_}
 use Rattle.rule.specs.Sheet.{Stretch}

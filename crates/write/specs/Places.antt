@@ -1,5 +1,5 @@
--- What each place of a table gives once one place is written, one entry changed, or one taken out. Said once for both tables, over the number
--- at a place and what stands beside it (a relay's limit, a tablet's relay). Assumes nothing.
+-- What each place of a table gives once one place is written, one entry changed, or one taken out (document 01, "The lent tables"). Said once
+-- for both tables, over the number at a place and what stands beside it (a relay's limit, a tablet's relay). Assumes nothing.
 use mathlib.Core.List.{List}
 use mathlib.Core.Path.{_≡_}
 use Prim.Native.Nat.{ℕ, _≤_, _<_}

@@ -1,4 +1,5 @@
--- What the writing functions say: the entries that a table has afterwards, and that the places behind them stay. Assumes nothing.
+-- What the writing functions say (document 01, "The lent tables"): the entries that a table has afterwards, and that the places behind them
+-- stay. Assumes nothing.
 use mathlib.Core.List.{List}
 use mathlib.Core.Path.{_≡_}
 use Prim.Native.Nat.{ℕ, _≤_, _<_}
