@@ -94,5 +94,5 @@ impl Case {
 fn lend([mut relays, mut tablets]: [Vec<u32>; 2], relay_places: usize, tablet_places: usize) -> Memory {
     relays.resize(2 * relay_places, 0);
     tablets.resize(2 * tablet_places, 0);
-    Memory { relays, tablets, moves: vec![0; 3 * tablet_places], tally: vec![0; 4] }
+    Memory { relays, tablets, moves: vec![0; 3 * tablet_places], tally: vec![0; 4], ..Memory::default() }
 }

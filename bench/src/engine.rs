@@ -1,13 +1,19 @@
 //! The three engines, the calls and the memory that is lent to them.
 use crate::{library, naive, plain};
 
-/// All that a caller lends.
-#[derive(Clone, Debug, PartialEq, Eq)]
+pub const MOST_RELAYS: usize = 256;
+pub const MOST_TABLETS: usize = 4096;
+pub const TOP_LIMIT: u32 = 4096;
+
+/// All that a caller lends. A call takes what it needs of it.
+#[derive(Clone, Debug, Default, PartialEq, Eq)]
 pub struct Memory {
     pub relays: Vec<u32>,
     pub tablets: Vec<u32>,
     pub moves: Vec<u32>,
     pub tally: Vec<u32>,
+    pub sheet: Vec<u32>,
+    pub roster: Vec<u8>,
 }
 
 #[derive(Clone, Copy, Debug, PartialEq, Eq)]
@@ -19,10 +25,17 @@ pub enum Call {
     Add(u32, u32),
     Remove(u32),
     Set(u32, u32),
+    Read,
+    Sheet,
+    Stretch(u32),
 }
 
-/// A reply as the paper lists it: refusal, relay, passed, moves. That of a check has the refusal alone.
+/// A reply as the paper lists it: refusal, relay, passed, moves. That of a check or a sheet has the refusal alone, a reading's the scheme
+/// behind it. A stretch, which bears no refusal, has where it starts and how long it is, behind a 0.
 pub type Numbers = [u32; 4];
+
+/// What an accepted call replies past the 0, or why it is refused.
+pub type Outcome = Result<[u32; 3], u32>;
 
 #[derive(Clone, Copy, Debug, PartialEq, Eq)]
 pub enum Engine {
@@ -52,19 +65,30 @@ impl Engine {
     }
 }
 
-/// What the station counts: an accepted call's own kind and its moves, or one more refusal. A check is not counted, and neither is anything
-/// where the tally has not four numbers.
-pub fn count(tally: &mut [u32], call: Call, reply: Numbers) {
+/// What the station counts: an accepted call's own kind and its moves, or one more refusal. A call that takes no tally is not counted, and
+/// neither is anything where the tally has not four numbers.
+fn count(tally: &mut [u32], call: Call, reply: Numbers) {
     let [refusal, _, _, moves] = reply;
     let [enrolments, withdrawals, all_moves, refusals] = tally else { return };
     match call {
-        Call::Check => return,
+        Call::Check | Call::Read | Call::Sheet | Call::Stretch(_) => return,
         _ if refusal != 0 => *refusals = refusals.saturating_add(1),
         Call::Enrol(_) => *enrolments = enrolments.saturating_add(1),
         Call::Withdraw(_) => *withdrawals = withdrawals.saturating_add(1),
         _ => {}
     }
     *all_moves = all_moves.saturating_add(moves);
+}
+
+/// The reply with this outcome, counted.
+pub fn reply(tally: &mut [u32], call: Call, outcome: Outcome) -> Numbers {
+    let reply = match outcome {
+        Ok([relay, passed, moves]) => [0, relay, passed, moves],
+        Err(_) if matches!(call, Call::Stretch(_)) => [0; 4],
+        Err(refusal) => [refusal, 0, 0, 0],
+    };
+    count(tally, call, reply);
+    reply
 }
 
 /// Every engine on a copy of the memory. Replies and all lent numbers must be the same; the answer is the reply and the memory afterwards.

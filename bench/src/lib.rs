@@ -13,3 +13,4 @@ pub mod positions;
 #[path = "../../tests/random.rs"]
 pub mod random;
 pub mod results;
+pub mod roster;

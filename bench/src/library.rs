@@ -12,5 +12,19 @@ pub fn call(scheme: u32, m: &mut Memory, call: Call) -> Numbers {
         Call::Add(r, limit) => raw::add(scheme, &mut lent, r, limit),
         Call::Remove(r) => raw::remove(scheme, &mut lent, r),
         Call::Set(r, limit) => raw::set(scheme, &mut lent, r, limit),
+        Call::Read => {
+            let (refusal, scheme) = raw::read(&m.roster, lent.relays, lent.tablets);
+            [refusal, scheme, 0, 0]
+        }
+        Call::Sheet => [raw::sheet(scheme, lent.relays, lent.tablets, &mut m.sheet), 0, 0, 0],
+        Call::Stretch(r) => {
+            let part = raw::stretch(scheme, lent.relays, lent.tablets, &m.sheet, r);
+            [0, start(&m.sheet, part), part.len() as u32, 0]
+        }
     }
+}
+
+/// Where a part of a sheet starts.
+fn start(sheet: &[u32], part: &[u32]) -> u32 {
+    ((part.as_ptr() as usize - sheet.as_ptr() as usize) / size_of::<u32>()) as u32
 }

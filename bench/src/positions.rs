@@ -2,6 +2,10 @@
 
 const PRIME: u32 = 16777619;
 
+pub fn known(scheme: u32) -> bool {
+    scheme <= 1
+}
+
 /// FNV-1a over the tag and the number, lowest byte first.
 #[inline]
 fn hashed(tag: u8, number: u32) -> u32 {

@@ -1,19 +1,22 @@
 //! The three engines on random rings and calls: the same replies, and the same numbers in all lent memory, of refused calls too.
 use wairepomuro_bench::engine::{agree, Call, Memory};
 use wairepomuro_bench::random::Random;
-use wairepomuro_bench::{cases, naive};
+use wairepomuro_bench::{cases, naive, roster};
 
 fn some_call(random: &mut Random, relays: &[u32], tablets: &[u32], greatest: usize) -> Call {
     let (relay, tablet) = (random.pick(relays), random.pick(tablets));
     let limit = if random.below(20) == 0 { random.pick(&[4096, 4097, u32::MAX]) } else { random.below(greatest + 1) as u32 };
-    match random.below(20) {
+    match random.below(26) {
         0..=2 => Call::Add(relay, limit),
         3 => Call::Remove(relay),
         4 => Call::Set(relay, limit),
         5..=11 => Call::Enrol(tablet),
         12..=15 => Call::Withdraw(tablet),
         16..=18 => Call::Find(tablet),
-        _ => Call::Check,
+        19 => Call::Check,
+        20 => Call::Read,
+        21..=22 => Call::Sheet,
+        _ => Call::Stretch(relay),
     }
 }
 
@@ -25,41 +28,66 @@ fn pool(random: &mut Random, count: usize) -> Vec<u32> {
     numbers
 }
 
-/// Runs of calls from empty tables, in tables that are often too small and with move lists that are often too short.
+/// Runs of calls from empty tables, in tables that are often too small, with move lists and sheets that are often too short, and with a roster
+/// of the tables as they once were.
 #[test]
 fn runs_of_calls() {
     let mut random = Random(1);
-    let mut refused = [0; 10];
+    let mut refused = [0; 13];
     for _ in 0..1_200 {
         let scheme = random.below(2) as u32;
         let (r, t) = (1 + random.below(16), 1 + random.below(70));
         let (relays, tablets) = (pool(&mut random, r), pool(&mut random, t));
         let greatest = random.pick(&[1, 3, 8, 30]);
         let moves = random.pick(&[0, 5, 12, 210]);
-        let mut memory =
-            Memory { relays: vec![0; 2 * random.below(18)], tablets: vec![0; 2 * random.below(60)], moves: vec![9; moves], tally: vec![0; 4] };
-        for _ in 0..120 {
+        let mut memory = Memory {
+            relays: vec![0; 2 * random.below(18)],
+            tablets: vec![0; 2 * random.below(60)],
+            moves: vec![9; moves],
+            tally: vec![0; 4],
+            sheet: vec![9; random.below(60)],
+            roster: roster::write(scheme, &[], &[]),
+        };
+        for _ in 0..140 {
+            if random.one_in(20) {
+                memory.roster = roster::write(scheme, &memory.relays, &memory.tablets);
+            }
             let call = some_call(&mut random, &relays, &tablets, greatest);
             let (reply, after) = agree(scheme, &memory, call);
             refused[reply[0] as usize] += 1;
             memory = after;
         }
     }
-    assert!([0, 3, 4, 5, 6, 7, 8, 9].iter().all(|&number| refused[number] > 0), "a number was never given: {refused:?}");
+    assert!([0, 3, 4, 5, 6, 7, 8, 9, 12].iter().all(|&number| refused[number] > 0), "a number was never given: {refused:?}");
 }
 
-/// One number of the lent tables changed, or a table of another length, or another scheme.
+/// Right tables, with their sheet and their roster.
+fn right(random: &mut Random, scheme: u32, relays: &[u32], tablets: &[u32]) -> Memory {
+    let [relays, tablets] = naive::tables(scheme, relays, tablets.len().div_ceil(relays.len()) as u32, tablets);
+    let roster = roster::write(scheme, &relays, &tablets);
+    let sheet = vec![9; tablets.len() / 2 + random.below(3)];
+    let mut memory = Memory { relays, tablets, moves: vec![9; 60], tally: vec![0; 4], sheet, roster };
+    naive::call(scheme, &mut memory, Call::Sheet);
+    memory
+}
+
+/// Few numbers, close together.
+fn some_numbers(random: &mut Random) -> (Vec<u32>, Vec<u32>) {
+    let (r, t) = (1 + random.below(9), 1 + random.below(20));
+    (random.rising(r, 40), random.rising(t, 60))
+}
+
+/// One number of the lent tables or of the sheet changed, or one of them of another length, or another scheme.
 #[test]
 fn damaged_tables() {
     let mut random = Random(2);
-    let mut refused = [0; 10];
+    let mut refused = [0; 13];
     for _ in 0..20_000 {
         let mut scheme = random.below(2) as u32;
-        let (r, t) = (1 + random.below(9), 1 + random.below(20));
-        let (relays, tablets) = (random.rising(r, 40), random.rising(t, 60));
-        let [relays_lent, tablets_lent] = naive::tables(scheme, &relays, t.div_ceil(r) as u32, &tablets);
-        let mut memory = Memory { relays: relays_lent, tablets: tablets_lent, moves: vec![9; 60], tally: vec![0; 4] };
-        let table = if random.below(2) == 0 { &mut memory.relays } else { &mut memory.tablets };
+        let (relays, tablets) = some_numbers(&mut random);
+        let mut memory = right(&mut random, scheme, &relays, &tablets);
+        let mut lent = [&mut memory.relays, &mut memory.tablets, &mut memory.sheet];
+        let table = &mut lent[random.below(3)];
         let at = random.below(table.len());
         match random.below(6) {
             0 => scheme = random.pick(&[1 - scheme, 2]),
@@ -75,6 +103,35 @@ fn damaged_tables() {
     assert!(refused[..3].iter().all(|&n| n > 0), "a number was never given: {refused:?}");
 }
 
+/// A roster with one bit changed, a byte more, some fewer, another scheme, or a block's last entry blank, read into tables that may not take it.
+#[test]
+fn damaged_rosters() {
+    let mut random = Random(4);
+    let mut refused = [0; 13];
+    for _ in 0..20_000 {
+        let scheme = random.below(2) as u32;
+        let (relays, tablets) = some_numbers(&mut random);
+        let mut memory = right(&mut random, scheme, &relays, &tablets);
+        for (table, most) in [(&mut memory.relays, 512), (&mut memory.tablets, 8192)] {
+            let length = table.len();
+            *table = vec![9; random.pick(&[length, length, length + 6, length + 1, length - 2, most, most + 2])];
+        }
+        let roster = &mut memory.roster;
+        let (at, trailer) = (random.below(roster.len()), roster.len() - 20);
+        let block_end = random.pick(&[8 * relays.len(), trailer]);
+        match random.below(10) {
+            0 => roster[at] ^= 1 << random.below(8),
+            1 => roster.truncate(at),
+            2 => roster.insert(at, 0),
+            3 => roster[trailer + 16] = random.below(3) as u8,
+            4 => roster[block_end - 8..block_end].fill(0),
+            _ => {}
+        }
+        refused[agree(scheme, &memory, Call::Read).0[0] as usize] += 1;
+    }
+    assert!([0, 1, 10, 11, 12].iter().all(|&number| refused[number] > 0), "a number was never given: {refused:?}");
+}
+
 /// The largest rings, full or nearly so.
 #[test]
 fn largest_rings() {
@@ -86,7 +143,9 @@ fn largest_rings() {
         let [mut relays_lent, mut tablets_lent] = naive::tables(scheme, &relays[..used], 16, &tablets[..4_080]);
         relays_lent.resize(512, 0);
         tablets_lent.resize(8_192, 0);
-        let mut memory = Memory { relays: relays_lent, tablets: tablets_lent, moves: vec![9; 12_288], tally: vec![0; 4] };
+        let roster = roster::write(scheme, &relays_lent, &tablets_lent);
+        let (moves, sheet) = (vec![9; 12_288], vec![9; 4_096]);
+        let mut memory = Memory { relays: relays_lent, tablets: tablets_lent, moves, tally: vec![0; 4], sheet, roster };
         for _ in 0..20 {
             let call = some_call(&mut random, &relays, &tablets, 40);
             memory = agree(scheme, &memory, call).1;

@@ -1,44 +1,46 @@
 //! The library's algorithms in plain Rust: what the proved code would be if nobody proved it. Nothing is allocated.
 mod relays;
 mod ring;
+mod roster;
+mod sheet;
 mod survey;
 mod tablets;
 
-use crate::engine::{count, Call, Memory, Numbers};
+use crate::engine::{reply, Call, Memory, Numbers, Outcome};
+use crate::positions;
+use survey::Survey;
 
-const MOST_RELAYS: usize = 256;
-const MOST_TABLETS: usize = 4096;
-const TOP_LIMIT: u32 = 4096;
-
-/// What an accepted call replies past the 0: relay, passed, moves.
-type Outcome = Result<[u32; 3], u32>;
+fn look(survey: &mut Survey, scheme: u32, lent: &Memory) -> Result<(), u32> {
+    match () {
+        _ if !positions::known(scheme) => Err(1),
+        _ if !survey.look_over(scheme, &lent.relays, &lent.tablets) => Err(2),
+        _ => Ok(()),
+    }
+}
 
 fn outcome(scheme: u32, lent: &mut Memory, call: Call) -> Outcome {
-    if scheme > 1 {
-        return Err(1);
-    }
-    let mut survey = survey::Survey::blank();
-    if !survey.look_over(scheme, &lent.relays, &lent.tablets) {
-        return Err(2);
+    let survey = &mut Survey::blank();
+    // A reading looks over the roster's entries instead.
+    if call != Call::Read {
+        look(survey, scheme, lent)?;
     }
     match call {
         Call::Check => Ok([0; 3]),
-        Call::Find(t) => tablets::find(&survey, &lent.tablets, t),
-        Call::Enrol(t) => tablets::enrol(scheme, &survey, lent, t),
-        Call::Withdraw(t) => tablets::withdraw(&survey, lent, t),
-        Call::Add(r, limit) => relays::add(scheme, &mut survey, lent, r, limit),
-        Call::Remove(r) => relays::remove(scheme, &mut survey, lent, r),
-        Call::Set(r, limit) => relays::set(scheme, &mut survey, lent, r, limit),
+        Call::Find(t) => tablets::find(survey, &lent.tablets, t),
+        Call::Enrol(t) => tablets::enrol(scheme, survey, lent, t),
+        Call::Withdraw(t) => tablets::withdraw(survey, lent, t),
+        Call::Add(r, limit) => relays::add(scheme, survey, lent, r, limit),
+        Call::Remove(r) => relays::remove(scheme, survey, lent, r),
+        Call::Set(r, limit) => relays::set(scheme, survey, lent, r, limit),
+        Call::Read => roster::read(survey, lent),
+        Call::Sheet => sheet::write(scheme, survey, lent),
+        Call::Stretch(r) => Ok(sheet::stretch(scheme, survey, lent, r)),
     }
 }
 
 pub fn call(scheme: u32, lent: &mut Memory, call: Call) -> Numbers {
-    let reply = match outcome(scheme, lent, call) {
-        Ok([relay, passed, moves]) => [0, relay, passed, moves],
-        Err(refusal) => [refusal, 0, 0, 0],
-    };
-    count(&mut lent.tally, call, reply);
-    reply
+    let outcome = outcome(scheme, lent, call);
+    reply(&mut lent.tally, call, outcome)
 }
 
 /// A table as its places: number, and what stands beside it.

@@ -1,8 +1,8 @@
 //! The calls about a relay: the ring order and the homes with one relay more or less, then every tablet placed afresh from its home.
-use super::ring::{key, PAST_ALL};
+use super::ring::{relay_key, PAST_ALL};
 use super::survey::Survey;
-use super::{places, places_mut, put_in, spot, take_out, Outcome, TOP_LIMIT};
-use crate::engine::Memory;
+use super::{places, places_mut, put_in, spot, take_out};
+use crate::engine::{Memory, Outcome, TOP_LIMIT};
 use crate::positions;
 
 /// The place of relay r among the relays in use, or where it belongs; 3 and 4 come before what follows from that.
@@ -12,11 +12,6 @@ fn place(survey: &Survey, lent: &Memory, r: u32, limit: u32) -> Result<Result<us
         _ if limit > TOP_LIMIT => Err(4),
         _ => Ok(spot(&places(&lent.relays)[..survey.ring.n], r)),
     }
-}
-
-/// The slot of a key, or the slot where it belongs.
-fn slot(survey: &Survey, key: u64) -> usize {
-    survey.ring.keys[..survey.ring.n].partition_point(|&k| k < key)
 }
 
 /// One relay more, at slot s. A tablet whose home was there keeps it where it does not stand past the newcomer.
@@ -75,8 +70,8 @@ pub fn add(scheme: u32, survey: &mut Survey, lent: &mut Memory, r: u32, limit: u
     if survey.ring.n == lent.relays.len() / 2 {
         return Err(7);
     }
-    let key = key(positions::relay(scheme, r), r);
-    put_in_slot(scheme, survey, places(&lent.tablets), slot(survey, key), key, limit);
+    let key = relay_key(scheme, r);
+    put_in_slot(scheme, survey, places(&lent.tablets), survey.ring.slot(key), key, limit);
     let moves = refill(survey, &mut lent.tablets, &mut lent.moves)?;
     put_in(&mut places_mut(&mut lent.relays)[..survey.ring.n], at, [r, limit]);
     Ok([r, 0, moves])
@@ -84,7 +79,7 @@ pub fn add(scheme: u32, survey: &mut Survey, lent: &mut Memory, r: u32, limit: u
 
 pub fn remove(scheme: u32, survey: &mut Survey, lent: &mut Memory, r: u32) -> Outcome {
     let at = place(survey, lent, r, 0)?.map_err(|_| 5u32)?;
-    take_out_slot(survey, slot(survey, key(positions::relay(scheme, r), r)));
+    take_out_slot(survey, survey.ring.slot(relay_key(scheme, r)));
     let moves = refill(survey, &mut lent.tablets, &mut lent.moves)?;
     take_out(&mut places_mut(&mut lent.relays)[..=survey.ring.n], at);
     Ok([r, 0, moves])
@@ -92,7 +87,7 @@ pub fn remove(scheme: u32, survey: &mut Survey, lent: &mut Memory, r: u32) -> Ou
 
 pub fn set(scheme: u32, survey: &mut Survey, lent: &mut Memory, r: u32, limit: u32) -> Outcome {
     let at = place(survey, lent, r, limit)?.map_err(|_| 5u32)?;
-    survey.ring.limits[slot(survey, key(positions::relay(scheme, r), r))] = limit as u16;
+    survey.ring.limits[survey.ring.slot(relay_key(scheme, r))] = limit as u16;
     let moves = refill(survey, &mut lent.tablets, &mut lent.moves)?;
     places_mut(&mut lent.relays)[at][1] = limit;
     Ok([r, 0, moves])

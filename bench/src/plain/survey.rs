@@ -1,6 +1,7 @@
 //! Are the lent tables right, and what does the check learn on its way?
 use super::ring::{Ring, Row};
-use super::{places, MOST_RELAYS, MOST_TABLETS, TOP_LIMIT};
+use super::places;
+use crate::engine::{MOST_RELAYS, MOST_TABLETS, TOP_LIMIT};
 use crate::positions;
 
 pub struct Survey {

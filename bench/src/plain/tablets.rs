@@ -1,7 +1,7 @@
 //! The calls about a tablet.
 use super::survey::Survey;
-use super::{places, places_mut, put_in, spot, take_out, Outcome, MOST_RELAYS};
-use crate::engine::Memory;
+use super::{places, places_mut, put_in, spot, take_out};
+use crate::engine::{Memory, Outcome, MOST_RELAYS};
 use crate::positions;
 
 /// The place of a tablet that must be there.

@@ -1,5 +1,8 @@
 //! The rule as it is told: every tablet asks every relay, and every call fills afresh.
-use crate::engine::{count, Call, Memory, Numbers};
+mod roster;
+mod sheet;
+
+use crate::engine::{reply, Call, Memory, Numbers, Outcome, MOST_RELAYS, MOST_TABLETS, TOP_LIMIT};
 use crate::positions;
 
 #[derive(Clone, Copy, PartialEq)]
@@ -71,16 +74,16 @@ fn ahead(scheme: u32, relays: &[Entry], tablet: u32, i: usize) -> u32 {
     key.iter().filter(|k| **k < key[i]).count() as u32
 }
 
-/// The lent tables and the room that they leave, where they are right.
+/// Tables and the room that they leave, where they are right.
 struct Right {
     relays: Vec<Entry>,
     tablets: Vec<Entry>,
     room: Vec<u32>,
 }
 
-fn right(scheme: u32, lent: &Memory) -> Option<Right> {
-    let (relays, tablets) = (entries(&lent.relays, 256)?, entries(&lent.tablets, 4096)?);
-    if relays.iter().any(|r| r.beside > 4096) {
+fn right(scheme: u32, relays: &[u32], tablets: &[u32]) -> Option<Right> {
+    let (relays, tablets) = (entries(relays, MOST_RELAYS)?, entries(tablets, MOST_TABLETS)?);
+    if relays.iter().any(|r| r.beside > TOP_LIMIT) {
         return None;
     }
     let (placed, room) = placement(scheme, &relays, &tablets)?;
@@ -91,7 +94,7 @@ fn right(scheme: u32, lent: &Memory) -> Option<Right> {
 fn barred(number: u32, limit: u32, at: Result<usize, usize>, puts_in: bool, full: bool) -> Result<usize, u32> {
     match at {
         _ if number == 0 => Err(3),
-        _ if limit > 4096 => Err(4),
+        _ if limit > TOP_LIMIT => Err(4),
         Err(_) if !puts_in => Err(5),
         Ok(_) if puts_in => Err(6),
         Err(_) if full => Err(7),
@@ -111,10 +114,11 @@ fn seat(scheme: u32, ring: &Right, at: usize) -> (u32, u32) {
 }
 
 /// The call's own entry put in, taken out or changed; the answer is the reply's relay (0 for a newcomer, which has none yet) and number passed.
+/// A call without an entry of its own changes nothing.
 fn edit(scheme: u32, lent: &Memory, ring: &mut Right, call: Call) -> Result<(u32, u32), u32> {
     let full = |table: &[u32], entries: &[Entry]| table.len() / 2 == entries.len();
     match call {
-        Call::Check => Ok((0, 0)),
+        Call::Check | Call::Read | Call::Sheet | Call::Stretch(_) => Ok((0, 0)),
         Call::Find(t) => Ok(seat(scheme, ring, barred(t, 0, place(&ring.tablets, t), false, false)?)),
         Call::Enrol(t) => {
             let at = barred(t, 0, place(&ring.tablets, t), true, full(&lent.tablets, &ring.tablets))?;
@@ -146,34 +150,46 @@ fn edit(scheme: u32, lent: &Memory, ring: &mut Right, call: Call) -> Result<(u32
     }
 }
 
-fn outcome(scheme: u32, lent: &mut Memory, call: Call) -> Result<Numbers, u32> {
-    if scheme > 1 {
-        return Err(1);
-    }
-    let mut ring = right(scheme, lent).ok_or(2u32)?;
-    let before = ring.tablets.clone();
-    let (mut relay, passed) = edit(scheme, lent, &mut ring, call)?;
-    if let Call::Check | Call::Find(_) = call {
-        return Ok([0, relay, passed, 0]);
-    }
-    let (placed, _) = placement(scheme, &ring.relays, &ring.tablets).ok_or(8u32)?;
-    let new = |number| place(&placed, number).ok().map(|at| placed[at].beside);
-    let moved = |old: &Entry| new(old.number).filter(|&new| new != old.beside).map(|new| [old.number, old.beside, new]);
-    let moves: Vec<[u32; 3]> = before.iter().filter_map(moved).collect();
+fn relay_of(tablets: &[Entry], t: u32) -> Option<u32> {
+    place(tablets, t).ok().map(|at| tablets[at].beside)
+}
+
+/// Fills the ring afresh and writes it, with the moves that this makes. Answers with how many they are.
+fn refill(scheme: u32, lent: &mut Memory, before: &[Entry], ring: &mut Right) -> Result<u32, u32> {
+    (ring.tablets, ring.room) = placement(scheme, &ring.relays, &ring.tablets).ok_or(8u32)?;
+    let new = |old: &Entry| relay_of(&ring.tablets, old.number).filter(|&new| new != old.beside);
+    let moves: Vec<[u32; 3]> = before.iter().filter_map(|old| new(old).map(|new| [old.number, old.beside, new])).collect();
     if moves.len() > lent.moves.len() / 3 {
         return Err(9);
     }
-    if let Call::Enrol(t) = call {
-        relay = new(t).expect("it was put in");
-    }
     lent.moves.chunks_exact_mut(3).zip(&moves).for_each(|(place, m)| place.copy_from_slice(m));
     write(&mut lent.relays, &ring.relays);
-    write(&mut lent.tablets, &placed);
-    Ok([0, relay, passed, moves.len() as u32])
+    write(&mut lent.tablets, &ring.tablets);
+    Ok(moves.len() as u32)
+}
+
+fn outcome(scheme: u32, lent: &mut Memory, call: Call) -> Outcome {
+    if call == Call::Read {
+        return roster::read(lent);
+    }
+    if !positions::known(scheme) {
+        return Err(1);
+    }
+    let mut ring = right(scheme, &lent.relays, &lent.tablets).ok_or(2u32)?;
+    let before = ring.tablets.clone();
+    let (relay, passed) = edit(scheme, lent, &mut ring, call)?;
+    match call {
+        Call::Check | Call::Find(_) => return Ok([relay, passed, 0]),
+        Call::Sheet => return sheet::write(&ring, &mut lent.sheet),
+        Call::Stretch(r) => return Ok(sheet::stretch(&ring, &lent.sheet, r)),
+        _ => {}
+    }
+    let moves = refill(scheme, lent, &before, &mut ring)?;
+    let newcomer = if let Call::Enrol(t) = call { relay_of(&ring.tablets, t) } else { None };
+    Ok([newcomer.unwrap_or(relay), passed, moves])
 }
 
 pub fn call(scheme: u32, lent: &mut Memory, call: Call) -> Numbers {
-    let reply = outcome(scheme, lent, call).unwrap_or_else(|refusal| [refusal, 0, 0, 0]);
-    count(&mut lent.tally, call, reply);
-    reply
+    let outcome = outcome(scheme, lent, call);
+    reply(&mut lent.tally, call, outcome)
 }
