@@ -14,3 +14,4 @@ pub mod positions;
 pub mod random;
 pub mod results;
 pub mod roster;
+pub mod table;

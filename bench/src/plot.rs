@@ -1,18 +1,20 @@
 //! `docs/bench.svg`: a panel to each call and scheme, instructions against tablets, both in logarithms.
 use crate::cases::{Case, Kind, KINDS, SCHEMES, SIZES};
-use crate::engine::ENGINES;
-use crate::page::{grouped, ratio};
-use crate::results::{of, Measured};
+use crate::engine::{Engine, ENGINES};
+use crate::results::{of, of_check, Measured};
+use crate::table::{grouped, ratio};
 use std::fmt::Write;
 
 const LIMIT: u32 = 16;
 
-// A panel's field, and how far it is from one to the next. Four stand beside each other.
+// A panel's field, and how far it is from one to the next. Four stand beside each other, and the legend stands behind the last.
 const WIDTH: f64 = 150.0;
 const HEIGHT: f64 = 130.0;
 const ACROSS: f64 = 215.0;
 const DOWN: f64 = 205.0;
-const BLOCK: f64 = 2.0 * DOWN + 40.0;
+const COLUMNS: usize = 4;
+const ROWS: usize = (KINDS.len() + 1).div_ceil(COLUMNS);
+const BLOCK: f64 = ROWS as f64 * DOWN + 40.0;
 
 /// Powers of ten at the bottom and the top of a panel.
 const LOWEST: f64 = 3.6;
@@ -69,16 +71,18 @@ fn guide(first: f64) -> Vec<(f64, f64)> {
 const GUIDE: (&str, &str) = ("#222222", "stroke-width=\"1\" stroke-dasharray=\"1 3\"");
 
 fn panel(svg: &mut String, all: &[Measured], scheme: u32, kind: Kind) {
-    let results = [0, 1, 2].map(|size| of(all, Case { size, scheme, limit: LIMIT, kind }).instructions);
+    let results = [0, 1, 2].map(|size| of(all, Case { size, scheme, limit: LIMIT, kind }));
     let largest = results[2];
+    let ratios = [largest.instructions.of_plain(), largest.instructions.naive_of(), of_check(all, largest, Engine::Library)].map(ratio);
     text(svg, 0.0, -22.0, "name", kind.name());
-    text(svg, 0.0, -7.0, "", &format!("{} × plain, naive {} ×", ratio(largest.of_plain()), ratio(largest.naive_of())));
+    text(svg, WIDTH + 15.0, -22.0, "right", &format!("{} × check", ratios[2]));
+    text(svg, 0.0, -7.0, "", &format!("{} × plain, naive {} ×", ratios[0], ratios[1]));
     field(svg);
-    line(svg, &guide(results[0].library() as f64), GUIDE.0, GUIDE.1);
-    for (engine, (colour, style)) in STYLES.into_iter().enumerate() {
-        let points: Vec<(f64, f64)> = SIZES.iter().zip(&results).map(|(size, cost)| (x(size.1 as f64), y(cost.0[engine] as f64))).collect();
+    line(svg, &guide(results[0].instructions.of(Engine::Library)), GUIDE.0, GUIDE.1);
+    for (engine, (colour, style)) in ENGINES.into_iter().zip(STYLES) {
+        let points: Vec<(f64, f64)> = SIZES.iter().zip(results).map(|(size, m)| (x(size.1 as f64), y(m.instructions.of(engine)))).collect();
         line(svg, &points, colour, style);
-        dots(svg, &points, engine);
+        dots(svg, &points, engine as usize);
     }
 }
 
@@ -104,7 +108,7 @@ fn group(svg: &mut String, x: f64, y: f64, draw: impl FnOnce(&mut String)) {
 fn block(svg: &mut String, all: &[Measured], scheme: u32) {
     text(svg, 10.0, 0.0, "head", &format!("Scheme {scheme}: 16 × 256, 64 × 1,024 and 256 × 4,096, limit {LIMIT}; the ratios are the largest ring's"));
     for place in 0..=KINDS.len() {
-        let (across, down) = ((place % 4) as f64, (place / 4) as f64);
+        let (across, down) = ((place % COLUMNS) as f64, (place / COLUMNS) as f64);
         group(svg, 60.0 + ACROSS * across, 60.0 + DOWN * down, |svg| match KINDS.get(place) {
             Some(&kind) => panel(svg, all, scheme, kind),
             None => legend(svg),
@@ -113,7 +117,7 @@ fn block(svg: &mut String, all: &[Measured], scheme: u32) {
 }
 
 pub fn plot(all: &[Measured]) -> String {
-    let (width, height) = (4.0 * ACROSS + 30.0, 2.0 * BLOCK + 20.0);
+    let (width, height) = (COLUMNS as f64 * ACROSS + 30.0, SCHEMES.len() as f64 * BLOCK + 20.0);
     let mut svg =
         format!("<svg xmlns=\"http://www.w3.org/2000/svg\" viewBox=\"0 0 {width:.0} {height:.0}\" width=\"{width:.0}\" height=\"{height:.0}\">\n");
     svg.push_str("<title>Instructions a call, by the size of the ring: the library, plain Rust and the naive engine</title>\n");

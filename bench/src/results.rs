@@ -1,5 +1,6 @@
 //! What was measured, read back.
-use crate::cases::{self, Case};
+use crate::cases::{self, Case, Kind};
+use crate::engine::Engine;
 use std::{fs, path::Path};
 
 /// What a call costs the library, plain Rust and the naive engine.
@@ -7,18 +8,22 @@ use std::{fs, path::Path};
 pub struct Cost(pub [u64; 3]);
 
 impl Cost {
+    pub fn of(self, engine: Engine) -> f64 {
+        self.0[engine as usize] as f64
+    }
+
     pub fn library(self) -> u64 {
-        self.0[0]
+        self.0[Engine::Library as usize]
     }
 
     /// How many times as much as plain Rust the library takes.
     pub fn of_plain(self) -> f64 {
-        self.0[0] as f64 / self.0[1] as f64
+        self.of(Engine::Library) / self.of(Engine::Plain)
     }
 
     /// How many times as much as the library the naive engine takes.
     pub fn naive_of(self) -> f64 {
-        self.0[2] as f64 / self.0[0] as f64
+        self.of(Engine::Naive) / self.of(Engine::Library)
     }
 }
 
@@ -60,4 +65,10 @@ pub fn read(folder: &Path) -> Vec<Measured> {
 /// The one result of a case.
 pub fn of(all: &[Measured], case: Case) -> &Measured {
     all.iter().find(|m| m.case == case).expect("every case is measured")
+}
+
+/// How many times the instructions of a check a call takes an engine, with the same size, scheme and limit.
+pub fn of_check(all: &[Measured], m: &Measured, engine: Engine) -> f64 {
+    let check = of(all, Case { kind: Kind::Check, ..m.case });
+    m.instructions.of(engine) / check.instructions.of(engine)
 }
