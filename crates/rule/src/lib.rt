@@ -2,7 +2,7 @@
 ghost use mathlib.Core.Path.{_≡_};
 ghost use Rattle.rule.specs.Refusals.{numberOf, isDone, refusedBy};
 
-// The greatest limit that a relay may have ("The rule of placement").
+// The greatest limit that a relay may have ("The lent tables").
 pub const MOST_LIMIT: u32 = 4096;
 
 // Why a call did nothing ("Replies"), or that it is done.

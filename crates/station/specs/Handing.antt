@@ -1,4 +1,4 @@
--- Moves as three numbers each, handed out as records. Assumes nothing.
+-- Moves as three numbers each, handed out as records (document 01, "The lent tables", on a move list). Assumes nothing.
 use mathlib.Core.List.{List}
 use Prim.Native.Nat.{ℕ, zero, suc, _+_, _*_}
 use lib.ListN.{getD, set}

@@ -1,4 +1,4 @@
--- What a call on the tables leaves for the move list and the tally. Assumes nothing.
+-- What a call on the tables leaves for the move list and the tally (document 01, "The lent tables", "Sheet, balance, tally"). Assumes nothing.
 use mathlib.Core.List.{List}
 use mathlib.Core.Path.{_≡_}
 use Prim.Native.Nat.{ℕ, _*_, _≤_}
