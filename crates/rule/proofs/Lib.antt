@@ -28,3 +28,9 @@ pub mod Listing
 pub mod Outcomes
 pub mod Lowest
 pub mod Lengths
+pub mod Full
+pub mod Others
+pub mod Own
+pub mod Named
+pub mod Back
+pub mod Drained
