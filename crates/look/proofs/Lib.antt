@@ -3,3 +3,4 @@ pub mod Checked
 pub mod Refusing
 pub mod Stays
 pub mod Ways
+pub mod Unchanged

@@ -6,3 +6,5 @@ pub mod Examples
 pub mod Fronts
 pub mod Outcomes
 pub mod Taking
+pub mod Exactly
+pub mod Unchanged

@@ -8,3 +8,5 @@ pub mod Housing
 pub mod Sheeting
 pub mod Binding
 pub mod Examples
+pub mod Holding
+pub mod Unchanged
