@@ -4,3 +4,6 @@ pub mod Kept
 pub mod Rosters
 pub mod Running
 pub mod Free
+pub mod Drilled
+pub mod Shells
+pub mod Pairs
