@@ -38,7 +38,7 @@ settled-accepted : (rs ts ms : List ℕ) (p : Positions) (g : Ring) (c : Call) �
 unfolding settled accepted isDone
 settled-accepted rs ts ms p g c = refl
 
-settled-declined : (rs ts ms : List ℕ) (g : Ring) (r : Refusal) → isDone r ≡ false → settled rs ts ms (declined g r) ≡ unchanged rs ts ms (declined g r)
+pub settled-declined : (rs ts ms : List ℕ) (g : Ring) (r : Refusal) → isDone r ≡ false → settled rs ts ms (declined g r) ≡ unchanged rs ts ms (declined g r)
 unfolding settled declined
 settled-declined rs ts ms g r h = rw (h, settled)
 

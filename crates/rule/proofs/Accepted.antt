@@ -1,5 +1,6 @@
 -- What an accepted call means, and that it leaves right tables.
 --   accepted-is     a call is accepted only where no refusal applies
+--   after-is        where the edited relays take the edited tablets, the tables are filled afresh
 --   after-right     the tables after an accepted call are right
 --   after-sets      they have the edited sets, and nothing else
 --   outcome-right   so right tables stay right, whatever is called
@@ -202,11 +203,15 @@ edited-tables p m g (Find t) ok h s = record { relays = ok .relays; limits = ok 
 
 -- ---- the tables afterwards
 
+-- the rule's tables where the edited relays take the edited tablets
+pub after-is : (p : Positions) (g : Ring) (c : Call) → Table (edited g c .relays) → length (edited g c .tablets) ≤ total (edited g c .relays)
+    → after p g c .tablets ≡ fill (key p) (edited g c .relays) (numbers (edited g c .tablets))
+unfolding after orNobody
+after-is p g c t h = rw (placement-fill p (edited g c .relays) 0 (t .up) (t .small) (numbers (edited g c .tablets)) (omega (arith, length-numbers (edited g c .tablets))))
+
 module _ (p : Positions) (g : Ring) (c : Call) (e : Edited g c) (enough : length (edited g c .tablets) ≤ total (edited g c .relays)) where
   pub after-fill : after p g c .tablets ≡ fill (key p) (edited g c .relays) (numbers (edited g c .tablets))
-  unfolding after orNobody
-  after-fill =
-      rw (placement-fill p (edited g c .relays) 0 (e .relays .up) (e .relays .small) (numbers (edited g c .tablets)) (omega (arith, length-numbers (edited g c .tablets))))
+  after-fill = after-is p g c (e .relays) enough
 
   pub after-sets : numbers (after p g c .tablets) ≡ numbers (edited g c .tablets)
   after-sets = ap numbers after-fill ∙ numbers-fill (key p) (numbers (edited g c .tablets)) (edited g c .relays)

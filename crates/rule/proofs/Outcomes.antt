@@ -14,34 +14,27 @@ use borrow.Author.Tests.{ltb-false, eq-eqb}
 use lib.ListN.{length}
 use Rattle.ring.specs.Scheme.{Positions}
 use Rattle.ring.specs.declared.TabletNumber.{TabletNumber}
-use Rattle.ring.specs.Clockwise.{key}
 use Rattle.ring.proofs.Tests.{split}
 use Rattle.rule.specs.declared.Move.{Move}
-use Rattle.rule.specs.declared.Call.{Call}
 use Rattle.rule.specs.declared.Call.the-variants.{Enrol, Withdraw, Find}
 use Rattle.rule.specs.Entry.{Entry, numbers, has, besideOf, insert, delete, total, count, load, loads, first, upTo}
 use Rattle.rule.specs.Order.{order}
 use Rattle.rule.specs.Rule.{Ring, full, hasRoom, seat}
-use Rattle.rule.specs.Calls.{edited, orNobody, after, moved, moves, fullAhead, passed, relayOf}
+use Rattle.rule.specs.Calls.{edited, after, moved, moves, fullAhead, passed, relayOf}
 use Rattle.rule.specs.Sweeps.{seated, seats, turn, newcomer, holes}
-use Rattle.rule.specs.Rooms.{rooms, fill}
+use Rattle.rule.specs.Rooms.{rooms}
 use Rattle.rule.specs.Stability.{Rising, In}
 use Rattle.rule.proofs.Counts.{insert-sits, length-insert, length-delete}
 use Rattle.rule.proofs.Sets.{rising-insert}
 use Rattle.rule.proofs.Orders.{Among, order-in}
-use Rattle.rule.proofs.Placing.{among-held, placement-fill}
-use Rattle.rule.proofs.Right.{Table, Right, right-loads, length-numbers}
+use Rattle.rule.proofs.Placing.{among-held}
+use Rattle.rule.proofs.Right.{Right, right-loads}
 use Rattle.rule.proofs.Demand3.{has-sits, sits-beside}
 use Rattle.rule.proofs.Turning.{turn-placement, distinct-order, distinct-rising, upTo-stop, upTo-go}
 use Rattle.rule.proofs.Holing.{holes-placement}
 use Rattle.rule.proofs.Listing.{Chain, numbers-seated, seated-other, turn-chain, chain-seated, turn-moves, holes-moves}
 use Rattle.rule.proofs.Moves.{moved-none}
-
--- the rule's tables where the edited relays take the edited tablets
-after-is : (p : Positions) (g : Ring) (c : Call) → Table (edited g c .relays) → length (edited g c .tablets) ≤ total (edited g c .relays)
-    → after p g c .tablets ≡ fill (key p) (edited g c .relays) (numbers (edited g c .tablets))
-unfolding after orNobody
-after-is p g c t h = rw (placement-fill p (edited g c .relays) 0 (t .up) (t .small) (numbers (edited g c .tablets)) (omega (arith, length-numbers (edited g c .tablets))))
+use Rattle.rule.proofs.Accepted.{after-is}
 
 -- what is left and what is taken make up the limits
 total-rooms : (rs ts : List Entry) → total rs ≤ total (rooms rs ts) + loads rs ts

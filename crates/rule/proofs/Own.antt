@@ -7,10 +7,10 @@ use mathlib.Core.Path.{_≡_, refl, sym, _∙_}
 use Prim.Native.Nat.{ℕ, suc, _^_, _<_}
 use native.Mathlib.Omega.{arith}
 use lib.ListN.{length}
+use borrow.Author.Tests.{not-false}
 use Rattle.ring.specs.Scheme.{Positions}
 use Rattle.ring.specs.declared.RelayNumber.{RelayNumber}
 use Rattle.ring.specs.declared.TabletNumber.{TabletNumber}
-use Rattle.ring.proofs.Tests.{not-false}
 use Rattle.rule.specs.declared.Refusal.the-variants.{NumberZero, TooLarge, NotThere, ThereAlready}
 use Rattle.rule.specs.declared.Call.{Call}
 use Rattle.rule.specs.declared.Call.the-variants.{Add, Remove, Set, Enrol, Withdraw, Find}

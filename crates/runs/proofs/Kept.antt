@@ -11,7 +11,6 @@ use lib.ListN.{length}
 use Rattle.ring.specs.Scheme.{Positions, positions}
 use Rattle.ring.proofs.Tests.{split, and-left, and-right}
 use Rattle.rule.specs.declared.Call.{Call}
-use Rattle.rule.specs.declared.Refusal.{Refusal}
 use Rattle.rule.specs.Rule as Rule
 use Rattle.rule.specs.Refusals.{isDone}
 use Rattle.rule.specs.Calls as Calls
@@ -21,6 +20,7 @@ use Rattle.lent.specs.Table.{relayPlaces, relayNumber, relayLimit, tabletPlaces
 use Rattle.lent.specs.Shape.{relaysUsed, tabletsUsed, relayFits, tabletFits}
 use Rattle.meaning.specs.Meaning.{restUnused, ringOf, lentOf, fitTables}
 use Rattle.look.specs.Promise.{outcomeOf, written, unchanged, settled, after}
+use Rattle.look.proofs.Refusing.{settled-declined}
 use Rattle.runs.specs.Runs.{tablesRight}
 use Rattle.runs.proofs.Again.{ring-again, fit-again, lengths-again}
 use Rattle.runs.proofs.Rooms.{relays-room, tablets-room}
@@ -46,13 +46,9 @@ module _ (s : ℕ) (rs ts ms : List ℕ) (c : Call) where
   unfolding after settled outcomeOf isDone Calls.accepted
   after-accepted d = rw (outcome-accepted p lent g c d)
 
-  settled-declined : (r : Refusal) → isDone r ≡ false → settled rs ts ms (Calls.declined g r) ≡ unchanged rs ts ms (Calls.declined g r)
-  unfolding settled Calls.declined
-  settled-declined r d = rw (d, settled)
-
   after-declined : isDone (Calls.refusal p lent g c) ≡ false → after s rs ts ms c ≡ unchanged rs ts ms (Calls.declined g (Calls.refusal p lent g c))
   unfolding after outcomeOf
-  after-declined d = rw (outcome-declined p lent g c d) (settled-declined (Calls.refusal p lent g c) d)
+  after-declined d = rw (outcome-declined p lent g c d) (settled-declined rs ts ms g (Calls.refusal p lent g c) d)
 
   pub call-reply : after s rs ts ms c .reply ≡ outcomeOf s rs ts ms c .reply
   unfolding outcomeOf written unchanged
