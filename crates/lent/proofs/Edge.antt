@@ -13,7 +13,7 @@ use Rattle.ring.proofs.Tests.{split, and-right}
 use Rattle.lent.specs.Table.{relayPlaces, relayNumber, relayLimit, tabletPlaces, tabletNumber, tabletRelay}
 use Rattle.rule.specs.Rule.{mostLimit}
 use Rattle.lent.specs.Shape.{used, shape, Edge, topNumber, relaysUsed, tabletsUsed, relayFits, tabletFits, relayShape, tabletShape, RelayEntries, TabletEntries}
-use Rattle.lent.proofs.Shape.{shape-within, shape-entry, shape-rest, shape-used}
+use Rattle.lent.proofs.Shaped.{shape-within, shape-entry, shape-rest, shape-used}
 
 module _ (number : ℕ → ℕ) (places : ℕ) where
   pub edge-start : Edge number places 0 places

@@ -11,7 +11,7 @@ use Rattle.ring.specs.Scheme.{Positions}
 use Rattle.lent.specs.Table.{RelaysIn, TabletsIn}
 use Rattle.lent.specs.Shape.{relaysUsed, tabletsUsed, relayShape, tabletShape, RelayEntries, TabletEntries}
 use Rattle.lent.specs.Placing.{placed, right}
-use Rattle.lent.proofs.Shape.{relays-in, tablets-in}
+use Rattle.lent.proofs.Shaped.{relays-in, tablets-in}
 
 module _ {rs : List ℕ} {n : ℕ} {a : Bool} (r : RelayEntries rs a n) where
   pub relays-found : not a ≡ false → RelaysIn rs n

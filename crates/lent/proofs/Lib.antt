@@ -1,7 +1,7 @@
 pub mod Loops
-pub mod Shape
+pub mod Shaped
 pub mod Edge
 pub mod Found
 pub mod Nearest
 pub mod Room
-pub mod Placing
+pub mod Placed

@@ -17,7 +17,7 @@ use Rattle.rule.specs.Rooms.{fill}
 use Rattle.lent.proofs.Loops.{all-at, all-of}
 use Rattle.lent.specs.Table.{mostRelays, relayNumber, tabletNumber, tabletRelay}
 use Rattle.lent.specs.Placing.{roomAfter, relayFor, placedAt, placed}
-use Rattle.lent.proofs.Placing.{placed-there}
+use Rattle.lent.proofs.Placed.{placed-there}
 use Rattle.meaning.specs.Meaning.{relaysIn, tabletsIn}
 use Rattle.meaning.specs.Ascending.{Ascending}
 use Rattle.meaning.proofs.Places.{places-ext, beside-places}

@@ -23,7 +23,7 @@ use Rattle.rule.proofs.Right.{Table}
 use Rattle.lent.specs.Table.{mostRelays, relayPlaces, relayNumber, relayLimit, relayWhole, RelaysIn, mostTablets, tabletPlaces, tabletNumber, tabletRelay, tabletWhole, TabletsIn}
 use Rattle.lent.specs.Shape.{topNumber, relaysUsed, tabletsUsed, relayFits, tabletFits, relayShape, tabletShape, shape}
 use Rattle.lent.specs.Placing as Lent
-use Rattle.lent.proofs.Shape.{used-most}
+use Rattle.lent.proofs.Shaped.{used-most}
 use Rattle.meaning.specs.Meaning.{relaysIn, tabletsIn, ringOf, restUnused, fitTables, Words}
 use Rattle.meaning.specs.Ascending.{Ascending}
 use Rattle.meaning.proofs.Places.{length-places, table-places, places-table, limits-places, places-limits}

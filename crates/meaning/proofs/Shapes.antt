@@ -11,7 +11,7 @@ use lib.Dec.{eqb, ltb}
 use Rattle.ring.proofs.Tests.{split, and-left, and-right}
 use Rattle.lent.specs.Shape.{previous, entryRight, unused, entryAt, unusedAt, shape}
 use Rattle.lent.proofs.Loops.{all-at, all-of}
-use Rattle.lent.proofs.Shape.{shape-entry, shape-rest}
+use Rattle.lent.proofs.Shaped.{shape-entry, shape-rest}
 use Rattle.meaning.specs.Meaning.{restUnused}
 use Rattle.meaning.specs.Ascending.{Ascending}
 

@@ -13,7 +13,7 @@ use Rattle.lent.specs.Table.{mostRelays, mostTablets, tabletNumber}
 use Rattle.lent.specs.Placing.{relayPositions, relayLimits, roomLess, roomAfter, relayFor}
 use Rattle.lent.proofs.Loops.{stored}
 use Rattle.lent.proofs.Room.{room-more, room-size}
-use Rattle.lent.proofs.Placing.{for-tablet}
+use Rattle.lent.proofs.Placed.{for-tablet}
 use Rattle.order.specs.Keys.{slotRelay, Slot, Ordered}
 use Rattle.survey.specs.Row.{slotRoom, Ahead, both, turn, past, Leads, Row, Takes}
 use Rattle.survey.proofs.Leading.{leads-at}

@@ -16,7 +16,7 @@ pub fn refill(
     requires { ⌜ Refills (now relays) n m (now keys) (now home) ⌝ }
     ensures { λ r. ⌜ ((p : Positions) (ts : List ℕ) → Homes p (now (relays .entry)) ts n m (now (keys .entry)) (now (home .entry)) → Refilled p (now (relays .entry)) ts n m r) ⌝ }
 {
-    let mut room = lent::relay_limits(relays, n);
+    let mut room = lent::placing::relay_limits(relays, n);
     let mut next = survey::first_row(keys, &room, n);
     let mut relay = [0u8; 4096];
     let mut j: usize = 0;

@@ -19,7 +19,7 @@ use Rattle.rule.proofs.History.{Fit, SameSets, same-tables}
 use Rattle.rule.proofs.Tallies.{Going, tally-loads}
 use Rattle.lent.specs.Table.{mostRelays, relayPlaces, relayNumber, relayLimit, relayWhole, mostTablets, tabletPlaces, tabletNumber, tabletRelay, tabletWhole}
 use Rattle.lent.specs.Shape.{relaysUsed, tabletsUsed, relayFits, tabletFits}
-use Rattle.lent.proofs.Shape.{used-most}
+use Rattle.lent.proofs.Shaped.{used-most}
 use Rattle.meaning.specs.Meaning.{places, restUnused, ringOf, fitTables}
 use Rattle.write.specs.Tables.{relayTable, tabletTable}
 use Rattle.write.proofs.Filled.{rest-zeros, relays-filled, tablets-filled}

@@ -22,7 +22,7 @@ use Rattle.rule.proofs.Puts.{numbers-put}
 use Rattle.rule.proofs.Right.{length-numbers}
 use Rattle.lent.specs.Table.{relayPlaces, relayNumber, relayLimit, tabletPlaces, tabletNumber, tabletRelay}
 use Rattle.lent.specs.Shape.{relaysUsed, tabletsUsed}
-use Rattle.lent.proofs.Shape.{used-most}
+use Rattle.lent.proofs.Shaped.{used-most}
 use Rattle.meaning.specs.Meaning.{ringOf, lentOf}
 use Rattle.meaning.proofs.Places.{length-places}
 

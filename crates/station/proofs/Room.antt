@@ -24,7 +24,7 @@ use Rattle.rule.proofs.Counts.{length-insert, delete-length}
 use Rattle.rule.proofs.Lengths.{moves-length}
 use Rattle.lent.specs.Table.{mostTablets, relayPlaces, relayNumber, relayLimit, tabletPlaces, tabletNumber, tabletRelay, tabletWhole}
 use Rattle.lent.specs.Shape.{relaysUsed, tabletsUsed, relayFits, tabletFits}
-use Rattle.lent.proofs.Shape.{used-most}
+use Rattle.lent.proofs.Shaped.{used-most}
 use Rattle.meaning.specs.Meaning.{ringOf, restUnused, fitTables}
 use Rattle.meaning.proofs.Places.{length-places}
 use Rattle.station.specs.Promise.{lentWith, outcomeWith}

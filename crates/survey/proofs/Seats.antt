@@ -18,7 +18,7 @@ use Rattle.lent.specs.Table.{mostRelays, relayNumber, mostTablets, tabletNumber
 use Rattle.lent.specs.Placing.{relayPositions, relayLimits, firstWithRoom, roomLess, roomAfter, relayFor, placedAt}
 use Rattle.lent.proofs.Loops.{stored}
 use Rattle.lent.proofs.Room.{room-more, room-size, room-beyond}
-use Rattle.lent.proofs.Placing.{for-tablet, placed-none}
+use Rattle.lent.proofs.Placed.{for-tablet, placed-none}
 use Rattle.order.specs.Keys.{slotRelay, Ordered}
 use Rattle.order.specs.Home.{keyAt, Home}
 use Rattle.survey.specs.Row.{slotRoom, Leads, Row, Takes}

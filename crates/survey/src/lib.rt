@@ -142,11 +142,11 @@ pub fn look_over(scheme: u32, relays: &[u32], tablets: &[u32], n: usize, m: usiz
     requires { ⌜ RelaysIn (now relays) n × TabletsIn (now tablets) m ⌝ }
     ensures { λ r. ⌜ (r .right ≡ placed (positions scheme) (now (relays .entry)) (now (tablets .entry)) n m) × (r .right ≡ true → Surveyed (positions scheme) (now (relays .entry)) (now (tablets .entry)) n m (r .keys) (r .room) (r .next) (r .last) (r .home) (r .slot)) ⌝ }
 {
-    let position = lent::relay_positions(scheme, relays, n);
+    let position = lent::placing::relay_positions(scheme, relays, n);
     let keys = order::ring_order(&position, n);
     let in_turn = order::in_turn(scheme);
     let start = order::arc_starts(&keys, n, in_turn);
-    let mut room = lent::relay_limits(relays, n);
+    let mut room = lent::placing::relay_limits(relays, n);
     let mut next = first_row(&keys, &room, n);
     let mut last = [0u16; 256];
     let mut home = [0u8; 4096];
@@ -192,11 +192,11 @@ pub struct Counts {
 pub fn shapes(relays: &[u32], tablets: &[u32]) -> Counts
     ensures { λ s. ⌜ ShapesOf (now (relays .entry)) (now (tablets .entry)) (s .right) (s .n) (s .m) ⌝ }
 {
-    let r = lent::relay_entries(relays);
+    let r = lent::entries::relay_entries(relays);
     if !r.right {
         return no_shapes();
     }
-    let t = lent::tablet_entries(tablets);
+    let t = lent::entries::tablet_entries(tablets);
     if !t.right {
         return no_shapes();
     }
