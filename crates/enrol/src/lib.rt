@@ -52,7 +52,7 @@ fn seek(
     ensures { λ r. ⌜ Seeks (positions scheme) n (now (keys .entry)) (now (room .entry)) (t .0) (r .home) (r .stop) (r .opens) ⌝ }
 {
     let p = ring::tablet_at(scheme, t);
-    let home = order::advance(keys, n, 0, (p.0 as u64) * 4294967296);
+    let home = order::home::advance(keys, n, 0, (p.0 as u64) * 4294967296);
     let stop = survey::led_to(next, home);
     let i = order::slot_relay(keys, stop);
     Sought {

@@ -14,7 +14,7 @@ use lib.Seq.{getD-set-other}
 use Rattle.ring.proofs.Tests.{split}
 use Rattle.lent.proofs.Loops.{stored}
 use Rattle.order.specs.Home.{keyAt, Begins, arcs, arc, Starts, Marked}
-use Rattle.order.proofs.Home.{begins-none, begins-later, begins-more}
+use Rattle.order.proofs.Walk.{begins-none, begins-later, begins-more}
 
 -- ---- a stretch of arcs
 

@@ -1,5 +1,5 @@
 pub mod Reorder
 pub mod Sinking
 pub mod Keys
-pub mod Home
+pub mod Walk
 pub mod Arcs

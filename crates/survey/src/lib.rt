@@ -144,8 +144,8 @@ pub fn look_over(scheme: u32, relays: &[u32], tablets: &[u32], n: usize, m: usiz
 {
     let position = lent::placing::relay_positions(scheme, relays, n);
     let keys = order::ring_order(&position, n);
-    let in_turn = order::in_turn(scheme);
-    let start = order::arc_starts(&keys, n, in_turn);
+    let in_turn = order::home::in_turn(scheme);
+    let start = order::home::arc_starts(&keys, n, in_turn);
     let mut room = lent::placing::relay_limits(relays, n);
     let mut next = first_row(&keys, &room, n);
     let mut last = [0u16; 256];
@@ -157,7 +157,7 @@ pub fn look_over(scheme: u32, relays: &[u32], tablets: &[u32], n: usize, m: usiz
     let mut j: usize = 0;
     while j < m {
         let p = ring::tablet_at(scheme, lent::tablet_number(tablets, j));
-        h = order::home_of(&keys, &start, n, in_turn, h, from, p);
+        h = order::home::home_of(&keys, &start, n, in_turn, h, from, p);
         from = p;
         let k = led_to(&next, h);
         let i = order::slot_relay(&keys, k);

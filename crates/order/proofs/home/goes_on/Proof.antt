@@ -1,6 +1,6 @@
--- `order::goes_on` meets its contract, test by test. Assumes nothing.
-use Rattle.order.proofs.goes_on.Statement.{statement}
-use Rattle.order.proofs.goes_on.Tie as tie
+-- `order::home::goes_on` meets its contract, test by test. Assumes nothing.
+use Rattle.order.proofs.home.goes_on.Statement.{statement}
+use Rattle.order.proofs.home.goes_on.Tie as tie
 
 returns : tie.Need-returns
 returns c = rw (c .if1 .taken)
