@@ -31,7 +31,7 @@ use Rattle.look.specs.Start.{Start}
 use Rattle.look.proofs.Refusing.{start-rises, start-ring, number-refused, limits-refused, list-refused, all-passed}
 use Rattle.look.proofs.Stays.{tablets-whole, tablets-zeros, relays-stay}
 use Rattle.chain.specs.Chain.{From, Chained}
-use Rattle.enrol.specs.declared.Enrolment.{Enrolment}
+use Rattle.enrol.specs.declared.newcomer.Enrolment.{Enrolment}
 use Rattle.enrol.specs.Enrol.{newcomerRefusal, Seeks, othersOf, Prepared}
 use Rattle.enrol.proofs.Working.{number-bars, shut-small, open-enough, stop-inside, steps-passed, others-moves, others-above, first-relay, others-after, length-others}
 

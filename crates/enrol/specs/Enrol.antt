@@ -28,7 +28,7 @@ use Rattle.write.specs.Places.{Zeros}
 use Rattle.write.specs.Listing as Listing
 use Rattle.chain.specs.declared.Chain.{Chain}
 use Rattle.chain.specs.Chain.{linkAt}
-use Rattle.enrol.specs.declared.Enrolment.{Enrolment}
+use Rattle.enrol.specs.declared.newcomer.Enrolment.{Enrolment}
 
 -- the refusals 3, 6 and 7
 unfoldable pub newcomerRefusal : ℕ → Bool → ℕ → ℕ → Refusal

@@ -1,4 +1,4 @@
--- `enrol::prepare` meets its contract: each way out names the first refusal that applies, and past them all the plan is of the call's outcome.
+-- `enrol::newcomer::prepare` meets its contract: each way out names the first refusal that applies, and past them all the plan is of the call's outcome.
 -- Assumes nothing.
 use mathlib.Core.Path.{refl, sym, ap, _∙_}
 use native.Mathlib.Omega.{arith}
@@ -8,8 +8,8 @@ use Rattle.look.proofs.Checked.{words-of}
 use Rattle.look.proofs.Refusing.{start-rises, look-refused}
 use Rattle.enrol.proofs.Planning.{test-false, test-true, refused-plan, barred-plan, shut-plan, turn-from, short-plan, whole-plan}
 use borrow.Author.Needs.{needs}
-use Rattle.enrol.proofs.prepare.Statement.{statement}
-use Rattle.enrol.proofs.prepare.Tie as tie
+use Rattle.enrol.proofs.newcomer.prepare.Statement.{statement}
+use Rattle.enrol.proofs.newcomer.prepare.Tie as tie
 
 look-requires : tie.Need-look-requires
 look-requires c κs = search needs

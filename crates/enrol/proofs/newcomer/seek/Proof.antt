@@ -1,10 +1,10 @@
--- `enrol::seek` meets its contract: the home is where a walk from the first slot ends, and the row leads on from there.
+-- `enrol::newcomer::seek` meets its contract: the home is where a walk from the first slot ends, and the row leads on from there.
 -- Assumes nothing.
 use native.Mathlib.Omega.{arith}
 use Rattle.enrol.proofs.Working.{seeks}
 use borrow.Author.Needs.{needs}
-use Rattle.enrol.proofs.seek.Statement.{statement}
-use Rattle.enrol.proofs.seek.Tie as tie
+use Rattle.enrol.proofs.newcomer.seek.Statement.{statement}
+use Rattle.enrol.proofs.newcomer.seek.Tie as tie
 
 tablet-at-requires : tie.Need-tablet-at-requires
 tablet-at-requires c κs = search needs
