@@ -34,7 +34,7 @@ use Rattle.homes.specs.declared.Around.{Around}
 use Rattle.homes.specs.Homes.{Homes, TakenOut, PutsIn, PutIn}
 use Rattle.look.proofs.Stays.{relays-few}
 use Rattle.look.proofs.Refusing.{look-refused, number-refused}
-use Rattle.relay_edit.specs.declared.Found.{Found}
+use Rattle.relay_edit.specs.declared.found.Found.{Found}
 use Rattle.relay_edit.specs.declared.Edit.{Edit}
 use Rattle.relay_edit.specs.Found.{Stands, Finds}
 use Rattle.relay_edit.specs.Refused.{addRefusal, setRefusal}

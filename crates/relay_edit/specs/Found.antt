@@ -11,7 +11,7 @@ use Rattle.meaning.specs.Meaning.{Words, relaysIn}
 use Rattle.look.specs.Start.{checked, Start}
 use Rattle.spot.specs.Spot.{Spot}
 use Rattle.homes.specs.declared.Around.{Around}
-use Rattle.relay_edit.specs.declared.Found.{Found}
+use Rattle.relay_edit.specs.declared.found.Found.{Found}
 
 -- right tables of n relays and m tablets; relay r stands at place `at`, or would stand there; the ring order and the homes are the survey's
 pub record Stands (s : ℕ) (rs ts : List ℕ) (r n m at : ℕ) (there : Bool) (around : Around) : Type 0 where

@@ -1,113 +1,13 @@
 // What a relay call comes to before the tablets are placed (document 01, "Replies"): a refusal from 1 to 7, or the relay table as it is to be,
 // made in a table of the call's own, with its relays in ring order and the tablets' homes. Nothing lent is written here.
+mod found;
+mod refused;
+
 ghost use mathlib.Core.Path.{_≡_};
-ghost use Prim.Native.Nat.{_^_, _<_, _≤_};
-ghost use lib.Dec.{ltb};
+ghost use Prim.Native.Nat.{_≤_};
 ghost use lib.ListN.{length};
 ghost use Rattle.rule.specs.declared.Call.the-variants.{Add, Remove, Set};
-ghost use Rattle.rule.specs.Rule.{mostLimit};
-ghost use Rattle.relay_edit.specs.Found.{Finds};
-ghost use Rattle.relay_edit.specs.Refused.{addRefusal, setRefusal};
 ghost use Rattle.relay_edit.specs.Edited.{ownNumbers, Copied, Edits};
-
-// ---- the relay that a call is about
-
-// The refusals 1 and 2; past them how many relays and tablets there are, the relay's place, whether it is there, and the relays in ring order
-// with the tablets' homes.
-pub struct Found {
-    pub refusal: rule::Refusal,
-    pub n: usize,
-    pub m: usize,
-    pub at: usize,
-    pub there: bool,
-    pub around: homes::Around,
-}
-
-// Nothing is known of a ring.
-fn nowhere() -> homes::Around {
-    homes::Around {
-        keys: [0u64; 256],
-        home: [0u8; 4096],
-    }
-}
-
-fn find_relay(scheme: u32, relays: &[u32], tablets: &[u32], r: ring::RelayNumber) -> Found
-    ensures { λ f. ⌜ Finds scheme (now (relays .entry)) (now (tablets .entry)) (r .0) f ⌝ }
-{
-    let l = look::look(scheme, relays, tablets);
-    let refusal = l.refusal;
-    let looked = rule::done(refusal);
-    if !looked {
-        let around = nowhere();
-        return Found {
-            refusal: refusal,
-            n: 0,
-            m: 0,
-            at: 0,
-            there: false,
-            around: around,
-        };
-    }
-    let n = l.n;
-    let at = spot::relay_spot(relays, n, r);
-    let there = spot::relay_there(relays, n, at, r);
-    let keys = l.survey.keys;
-    let home = l.survey.home;
-    Found {
-        refusal: refusal,
-        n: n,
-        m: l.m,
-        at: at,
-        there: there,
-        around: homes::Around {
-            keys: keys,
-            home: home,
-        },
-    }
-}
-
-// ---- the refusals 3 to 7 of adding and setting, by rising number. (Those of removing are `spot::missing`.)
-
-fn too_large(limit: u32) -> bool
-    ensures { λ b. ⌜ b ≡ ltb mostLimit limit ⌝ }
-{
-    rule::MOST_LIMIT < limit
-}
-
-fn add_refusal(r: ring::RelayNumber, limit: u32, there: bool, full: bool) -> rule::Refusal
-    ensures { λ e. ⌜ (e ≡ addRefusal (r .0) limit there full) × (r .0 < 2 ^ 32) ⌝ }
-{
-    if r.0 == 0 {
-        return rule::Refusal::NumberZero;
-    }
-    if too_large(limit) {
-        return rule::Refusal::TooLarge;
-    }
-    if there {
-        return rule::Refusal::ThereAlready;
-    }
-    if full {
-        return rule::Refusal::NoUnusedPlace;
-    }
-    rule::Refusal::Done
-}
-
-fn set_refusal(r: ring::RelayNumber, limit: u32, there: bool) -> rule::Refusal
-    ensures { λ e. ⌜ e ≡ setRefusal (r .0) limit there ⌝ }
-{
-    if r.0 == 0 {
-        return rule::Refusal::NumberZero;
-    }
-    if too_large(limit) {
-        return rule::Refusal::TooLarge;
-    }
-    if !there {
-        return rule::Refusal::NotThere;
-    }
-    rule::Refusal::Done
-}
-
-// ---- the table as it is to be
 
 // As many numbers as the longest relay table.
 const OWN_NUMBERS: usize = 512;
@@ -124,7 +24,7 @@ pub struct Edit {
 fn no_edit(refusal: rule::Refusal) -> Edit
     ensures { λ e. ⌜ e .refusal ≡ refusal ⌝ }
 {
-    let around = nowhere();
+    let around = found::nowhere();
     Edit {
         refusal: refusal,
         n: 0,
@@ -158,7 +58,7 @@ pub fn edit_add(
 ) -> Edit
     ensures { λ e. ⌜ Edits scheme (now (relays .entry)) (now (tablets .entry)) (Add r limit) (r .0) e ⌝ }
 {
-    let f = find_relay(scheme, relays, tablets, r);
+    let f = found::find_relay(scheme, relays, tablets, r);
     let first = f.refusal;
     let found = rule::done(first);
     if !found {
@@ -166,7 +66,7 @@ pub fn edit_add(
     }
     let n = f.n;
     let full = lent::relay_places(relays) <= n;
-    let wrong = add_refusal(r, limit, f.there, full);
+    let wrong = refused::add_refusal(r, limit, f.there, full);
     let fine = rule::done(wrong);
     if !fine {
         return no_edit(wrong);
@@ -191,7 +91,7 @@ pub fn edit_add(
 pub fn edit_remove(scheme: u32, relays: &[u32], tablets: &[u32], r: ring::RelayNumber) -> Edit
     ensures { λ e. ⌜ Edits scheme (now (relays .entry)) (now (tablets .entry)) (Remove r) (r .0) e ⌝ }
 {
-    let f = find_relay(scheme, relays, tablets, r);
+    let f = found::find_relay(scheme, relays, tablets, r);
     let first = f.refusal;
     let found = rule::done(first);
     if !found {
@@ -228,14 +128,14 @@ pub fn edit_set(
 ) -> Edit
     ensures { λ e. ⌜ Edits scheme (now (relays .entry)) (now (tablets .entry)) (Set r limit) (r .0) e ⌝ }
 {
-    let f = find_relay(scheme, relays, tablets, r);
+    let f = found::find_relay(scheme, relays, tablets, r);
     let first = f.refusal;
     let found = rule::done(first);
     if !found {
         return no_edit(first);
     }
     let n = f.n;
-    let wrong = set_refusal(r, limit, f.there);
+    let wrong = refused::set_refusal(r, limit, f.there);
     let fine = rule::done(wrong);
     if !fine {
         return no_edit(wrong);

@@ -1,12 +1,12 @@
--- `relay_edit::find_relay` meets its contract: the look's refusal, and past it the relay's place among ascending numbers. Assumes nothing.
+-- `relay_edit::found::find_relay` meets its contract: the look's refusal, and past it the relay's place among ascending numbers. Assumes nothing.
 use mathlib.Core.Path.{refl, sym, _∙_}
 use borrow.Author.Tests.{not-true, not-false}
 use Rattle.ring.proofs.Tests.{true-false}
 use Rattle.look.proofs.Checked.{words-of}
 use Rattle.look.proofs.Refusing.{start-rises}
 use borrow.Author.Needs.{needs}
-use Rattle.relay_edit.proofs.find_relay.Statement.{statement}
-use Rattle.relay_edit.proofs.find_relay.Tie as tie
+use Rattle.relay_edit.proofs.found.find_relay.Statement.{statement}
+use Rattle.relay_edit.proofs.found.find_relay.Tie as tie
 
 look-requires : tie.Need-look-requires
 look-requires c κs = search needs

@@ -1,12 +1,12 @@
--- `relay_edit::add_refusal` meets its contract: each way out is the first refusal that applies. Assumes nothing.
+-- `relay_edit::refused::add_refusal` meets its contract: each way out is the first refusal that applies. Assumes nothing.
 use mathlib.Core.Path.{sym, _∙_}
 use native.Mathlib.Omega.{arith}
 use borrow.Author.Tests.{eq-eqb, ne-eqb}
 use Rattle.relay_edit.specs.Refused.{addRefusal}
 use Rattle.relay_edit.proofs.Bars.{bar-first, bar-next, bar-none}
 use borrow.Author.Needs.{needs}
-use Rattle.relay_edit.proofs.add_refusal.Statement.{statement}
-use Rattle.relay_edit.proofs.add_refusal.Tie as tie
+use Rattle.relay_edit.proofs.refused.add_refusal.Statement.{statement}
+use Rattle.relay_edit.proofs.refused.add_refusal.Tie as tie
 
 returns : tie.Need-returns
 unfolding addRefusal

@@ -1,11 +1,11 @@
--- `relay_edit::set_refusal` meets its contract: each way out is the first refusal that applies. Assumes nothing.
+-- `relay_edit::refused::set_refusal` meets its contract: each way out is the first refusal that applies. Assumes nothing.
 use mathlib.Core.Path.{sym, _∙_}
 use borrow.Author.Tests.{eq-eqb, ne-eqb}
 use Rattle.relay_edit.specs.Refused.{setRefusal}
 use Rattle.relay_edit.proofs.Bars.{bar-first, bar-next, bar-none}
 use borrow.Author.Needs.{needs}
-use Rattle.relay_edit.proofs.set_refusal.Statement.{statement}
-use Rattle.relay_edit.proofs.set_refusal.Tie as tie
+use Rattle.relay_edit.proofs.refused.set_refusal.Statement.{statement}
+use Rattle.relay_edit.proofs.refused.set_refusal.Tie as tie
 
 returns : tie.Need-returns
 unfolding setRefusal
