@@ -29,7 +29,7 @@ fn seat_one(
     let t = lent::tablet_number(tablets, j);
     let from = lent::relay_number(relays, old);
     let to = lent::relay_number(relays, new);
-    write::list_move(moves, c, t.0, from.0, to.0);
+    write::list_move(moves, c, t, from, to);
     write::seat_tablet(tablets, m, j, to);
 }
 

@@ -132,7 +132,7 @@ fn move_one(
         return c;
     }
     let t = lent::tablet_number(tablets, j);
-    write::list_move(moves, c, t.0, old.0, new.0);
+    write::list_move(moves, c, t, old, new);
     write::set_tablet_relay(tablets, j, new);
     c + 1
 }

@@ -134,11 +134,17 @@ pub fn seat_tablet(tablets: &mut [u32], m: usize, j: usize, r: ring::RelayNumber
 // ---- the move list
 
 // The move at place c of a move list.
-pub fn list_move(moves: &mut [u32], c: usize, tablet: u32, old: u32, new: u32)
+pub fn list_move(
+    moves: &mut [u32],
+    c: usize,
+    tablet: ring::TabletNumber,
+    old: ring::RelayNumber,
+    new: ring::RelayNumber,
+)
     requires { ⌜ 3 * (c + 1) ≤ length (now moves) ⌝ }
-    ensures { λ _. ⌜ now (moves .exit) ≡ setMove (now (moves .entry)) c tablet old new ⌝ }
+    ensures { λ _. ⌜ now (moves .exit) ≡ setMove (now (moves .entry)) c (tablet .0) (old .0) (new .0) ⌝ }
 {
-    moves[3 * c] = tablet;
-    moves[3 * c + 1] = old;
-    moves[3 * c + 2] = new;
+    moves[3 * c] = tablet.0;
+    moves[3 * c + 1] = old.0;
+    moves[3 * c + 2] = new.0;
 }
