@@ -33,26 +33,31 @@ fn first_slot(n: usize, h: usize) -> usize
     if h == n { 0 } else { h }
 }
 
-// The number of who walks once c sat down.
-fn walker(tablets: &[u32], place: &[u16; 256], c: usize, x: u32) -> u32
+// The tablet that walks once c sat down; t is the newcomer.
+fn walker(
+    tablets: &[u32],
+    place: &[u16; 256],
+    c: usize,
+    t: ring::TabletNumber,
+) -> ring::TabletNumber
     requires { ⌜ (c < 256) × (0 < c → getD (now place) c 0 < tabletPlaces (now tablets)) ⌝ }
-    ensures { λ r. ⌜ r ≡ nameAt x (now (tablets .entry)) (now (place .entry)) c ⌝ }
+    ensures { λ r. ⌜ r .0 ≡ nameAt (t .0) (now (tablets .entry)) (now (place .entry)) c ⌝ }
 {
     if c == 0 {
-        return x;
+        return t;
     }
-    lent::tablet_number(tablets, ring::from_u16(place[c])).0
+    lent::tablet_number(tablets, ring::from_u16(place[c]))
 }
 
 // Does the greatest tablet at a relay give way to w?
-fn gives_way(tablets: &[u32], w: u32, l: usize) -> bool
+fn gives_way(tablets: &[u32], w: ring::TabletNumber, l: usize) -> bool
     requires { ⌜ l ≤ tabletPlaces (now tablets) ⌝ }
-    ensures { λ b. ⌜ b ≡ givesWay (now (tablets .entry)) w l ⌝ }
+    ensures { λ b. ⌜ b ≡ givesWay (now (tablets .entry)) (w .0) l ⌝ }
 {
     if l == 0 {
         return false;
     }
-    w < lent::tablet_number(tablets, l - 1).0
+    w.0 < lent::tablet_number(tablets, l - 1).0
 }
 
 // The c-th sits down at relay i, and the tablet at place l - 1 walks on.
@@ -69,12 +74,12 @@ fn visit(
     place: &mut [u16; 256],
     seat: &mut [u8; 256],
     c: usize,
-    w: u32,
+    w: ring::TabletNumber,
     i: usize,
     l: usize,
 ) -> usize
     requires { ⌜ (c + 1 < 256) × (i < 256) × (l ≤ 4096) × (l ≤ tabletPlaces (now tablets)) × (length (now place) ≡ 256) × (length (now seat) ≡ 256) ⌝ }
-    ensures { λ r. ⌜ Visited (givesWay (now (tablets .entry)) w l) (now (place .entry)) (now (seat .entry)) (now (place .exit)) (now (seat .exit)) c i l r ⌝ }
+    ensures { λ r. ⌜ Visited (givesWay (now (tablets .entry)) (w .0) l) (now (place .entry)) (now (seat .entry)) (now (place .exit)) (now (seat .exit)) c i l r ⌝ }
 {
     let gives = gives_way(tablets, w, l);
     if gives {
@@ -94,10 +99,10 @@ pub fn turn(
     last: &[u16; 256],
     h: usize,
     stop: usize,
-    x: u32,
+    t: ring::TabletNumber,
 ) -> Chain
-    requires { ⌜ ((s : ℕ) × From (positions s) (now relays) (now tablets) n m (now keys) (now last) h stop x) ⌝ }
-    ensures { λ r. ⌜ Chained (now (relays .entry)) (now (tablets .entry)) n m (now (keys .entry)) h stop x (r .others) (r .steps) (r .place) (r .seat) ⌝ }
+    requires { ⌜ ((s : ℕ) × From (positions s) (now relays) (now tablets) n m (now keys) (now last) h stop (t .0)) ⌝ }
+    ensures { λ r. ⌜ Chained (now (relays .entry)) (now (tablets .entry)) n m (now (keys .entry)) h stop (t .0) (r .others) (r .steps) (r .place) (r .seat) ⌝ }
 {
     let mut place = [0u16; 256];
     let mut seat = [0u8; 256];
@@ -106,7 +111,7 @@ pub fn turn(
     let mut k = first_slot(n, h);
     while k != stop {
         let i = order::slot_relay(keys, k);
-        let w = walker(tablets, &place, c, x);
+        let w = walker(tablets, &place, c, t);
         c = visit(
             tablets,
             &mut place,

@@ -12,10 +12,10 @@ ghost use Rattle.order.specs.Keys.{Rising};
 ghost use Rattle.survey.specs.Row.{Row};
 ghost use Rattle.enrol.specs.Enrol.{newcomerRefusal, Seeks, Prepared};
 
-fn newcomer_refusal(number: u32, there: bool, places: usize, m: usize) -> rule::Refusal
-    ensures { λ r. ⌜ r ≡ newcomerRefusal number there places m ⌝ }
+fn newcomer_refusal(t: ring::TabletNumber, there: bool, places: usize, m: usize) -> rule::Refusal
+    ensures { λ r. ⌜ r ≡ newcomerRefusal (t .0) there places m ⌝ }
 {
-    if number == 0 {
+    if t.0 == 0 {
         return rule::Refusal::NumberZero;
     }
     if there {
@@ -110,7 +110,7 @@ pub(crate) fn prepare(
     let m = l.m;
     let at = spot::tablet_spot(tablets, m, t);
     let there = spot::tablet_there(tablets, m, at, t);
-    let bar = newcomer_refusal(t.0, there, lent::tablet_places(tablets), m);
+    let bar = newcomer_refusal(t, there, lent::tablet_places(tablets), m);
     let free = rule::done(bar);
     if !free {
         return no_enrolment(bar);
@@ -133,7 +133,7 @@ pub(crate) fn prepare(
         &last,
         sought.home,
         sought.stop,
-        t.0,
+        t,
     );
     if places < chain.others {
         return no_enrolment(rule::Refusal::MoveListTooShort);

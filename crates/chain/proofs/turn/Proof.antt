@@ -12,10 +12,10 @@ use Rattle.chain.proofs.turn.Statement.{statement}
 use Rattle.chain.proofs.turn.Tie as tie
 
 abbrev Inv-loop : tie.InvT-loop
-Inv-loop relays tablets n m keys last h stop x place₀ seat₀ c₀ d₀ k₀ place seat c d k = Going relays tablets n m keys h stop x place seat c d k
+Inv-loop relays tablets n m keys last h stop t place₀ seat₀ c₀ d₀ k₀ place seat c d k = Going relays tablets n m keys h stop (t .0) place seat c d k
 
 abbrev μ-loop : tie.MeasureT-loop
-μ-loop relays tablets n m keys last h stop x place₀ seat₀ c₀ d₀ k₀ place seat c d k = stepsTo n h stop - d
+μ-loop relays tablets n m keys last h stop t place₀ seat₀ c₀ d₀ k₀ place seat c d k = stepsTo n h stop - d
 
 first-slot-requires : tie.Need-first-slot-requires Inv-loop μ-loop
 first-slot-requires c κs = c .before .before .pre .1 .home .begins .within
