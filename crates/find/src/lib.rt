@@ -25,7 +25,7 @@ pub fn find(scheme: u32, relays: &[u32], tablets: &[u32], t: ring::TabletNumber)
     }
     rule::Reply {
         refusal: rule::Refusal::Done,
-        relay: seat.relay,
+        relay: seat.relay.0,
         passed: seat.passed,
         moves: 0,
     }

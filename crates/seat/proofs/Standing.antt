@@ -46,7 +46,7 @@ module _ {s : ℕ} {rs ts : List ℕ} {n m : ℕ} {v : Survey} (b : Start s rs t
       refused-answers s rs ts ms c (seat .refusal) (number-refused s rs ts ms c b (seat .refusal) (e (lentOf s rs ts ms) ∙ sym (f .refusal)) no) no reply ep
 
   module _ {seat : Seat} (f : Found ts n m (v .home) (v .slot) (t .0) seat) where
-    pub found-relay : besideOf (ringOf rs ts .tablets) (t .0) ≡ seat .relay
+    pub found-relay : besideOf (ringOf rs ts .tablets) (t .0) ≡ seat .relay .0
     found-relay = rw (start-ring b, ← f .number, f .relay) (beside-places (tabletRelay ts) (start-rises b .tablets) (seat .at) (f .below))
 
     pub found-passed : aheadOf (positions s) (ringOf rs ts) (t .0) ≡ seat .passed

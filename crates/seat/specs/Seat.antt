@@ -25,7 +25,7 @@ pub record Slotted (ts : List ℕ) (n m : ℕ) (home slot : List ℕ) : Type 0 w
 pub record Found (ts : List ℕ) (n m : ℕ) (home slot : List ℕ) (x : ℕ) (s : Seat) : Type 0 where
   pub below : s .at < m
   pub number : tabletNumber ts (s .at) ≡ x
-  pub relay : s .relay ≡ tabletRelay ts (s .at)
+  pub relay : s .relay .0 ≡ tabletRelay ts (s .at)
   pub passed : s .passed ≡ stepsTo n (getD home (s .at) 0) (getD slot (s .at) 0)
 
 pub record SeatOf (ts : List ℕ) (n m : ℕ) (home slot : List ℕ) (x : ℕ) (s : Seat) : Type 0 where

@@ -20,7 +20,7 @@ pub fn steps_to(n: usize, h: u8, k: u8) -> usize
 pub struct Seat {
     pub refusal: rule::Refusal,
     pub at: usize,
-    pub relay: u32,
+    pub relay: ring::RelayNumber,
     pub passed: u32,
 }
 
@@ -44,7 +44,7 @@ pub fn seat_of<'a>(
         return Seat {
             refusal: refusal,
             at: 0,
-            relay: 0,
+            relay: ring::RelayNumber(0),
             passed: 0,
         };
     }
@@ -52,7 +52,7 @@ pub fn seat_of<'a>(
     Seat {
         refusal: refusal,
         at: at,
-        relay: lent::tablet_relay(tablets, at).0,
+        relay: lent::tablet_relay(tablets, at),
         passed: passed as u32,
     }
 }

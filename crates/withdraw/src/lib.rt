@@ -43,7 +43,7 @@ pub fn withdraw(
     holes::fill(tablets, moves, m, at, &chain.places, count);
     rule::Reply {
         refusal: rule::Refusal::Done,
-        relay: seat.relay,
+        relay: seat.relay.0,
         passed: seat.passed,
         moves: count as u32,
     }

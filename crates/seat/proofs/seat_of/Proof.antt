@@ -45,8 +45,8 @@ tablet-relay-requires c κs =
     let p = spot-is _ (c .before .before .before .before .before .before .before .before .before .pre .numbers) (c .before .before .before .before .before .before .before .tablet-spot .ensures) (c .before .before .before .before .before .before .tablet-there .ensures) (c .before .before .before .before .before .missing .ensures) (sym (c .before .before .before .before .done .ensures) ∙ not-false _ (c .before .before .before .if1 .left)) in
     omega (arith, p .0, c .before .before .before .before .before .before .before .before .before .pre .tabletsFit .there)
 
-cast-t20 : tie.Need-cast-t20
-cast-t20 c =
+cast-t21 : tie.Need-cast-t21
+cast-t21 c =
     let p = spot-is _ (c .before .before .before .before .before .before .before .before .before .before .pre .numbers) (c .before .before .before .before .before .before .before .before .tablet-spot .ensures) (c .before .before .before .before .before .before .before .tablet-there .ensures) (c .before .before .before .before .before .before .missing .ensures) (sym (c .before .before .before .before .before .done .ensures) ∙ not-false _ (c .before .before .before .before .if1 .left)) in
     omega (arith, c .before .steps-to .ensures, steps-inside _ _ (c .before .before .before .before .before .before .before .before .before .before .pre .homes _ (p .0)) _ (c .before .before .before .before .before .before .before .before .before .before .pre .slots _ (p .0)), c .before .before .before .before .before .before .before .before .before .before .pre .relaysFew)
 
@@ -71,5 +71,5 @@ seat-of-spec =
     element-copy-out-steps-to-2
     steps-to-requires
     tablet-relay-requires
-    cast-t20
+    cast-t21
     returns-2)
