@@ -18,7 +18,7 @@ use Rattle.order.specs.Keys.{slotRelay}
 use Rattle.meaning.specs.Meaning.{places, tabletsIn}
 use Rattle.slots.specs.Slots.{slotAt, stepsTo, roundNumber, roundLimit, round}
 use Rattle.slots.proofs.Steps.{slot-inside, steps-inside, slot-steps, steps-slot, slot-next}
-use Rattle.chain.specs.Chain.{nameAt, chainOf, nextSlot, Keeps, From, Going, Chained}
+use Rattle.chain.specs.Chain.{nameAt, chainOf, nextSlot, Turned, From, Going, Chained}
 use Rattle.chain.specs.Visit.{givesWay, Visited}
 use Rattle.chain.proofs.Keeping.{numberBefore, last-within, greatest-last, keeps-start, keeps-end, keeps-visited}
 
@@ -40,7 +40,7 @@ module _ {p : Positions} {rs ts : List ℕ} {n m : ℕ} {keys last : List ℕ} {
         few = omega arith;
         place-size = lp;
         seat-size = ls;
-        keeps = subst (λ (s : Turn). Keeps x rs ts place seat n m 0 s) (sym none-yet) (keeps-start x rs ts place seat n m);
+        keeps = subst (λ (s : Turn). Turned x rs ts place seat n m 0 s) (sym none-yet) (keeps-start x rs ts place seat n m);
       }
     where
       none-yet : turn (tabletsIn ts m) (newcomer x) (round rs keys n h 0) ≡ newcomer x
@@ -81,7 +81,7 @@ module _ {p : Positions} {rs ts : List ℕ} {n m : ℕ} {keys last : List ℕ} {
           few = count-few (givesWay ts w l) (v .count);
           place-size = v .place-size;
           seat-size = v .seat-size;
-          keeps = subst (λ (s : Turn). Keeps x rs ts place′ seat′ n m c′ s) (sym one-more)
+          keeps = subst (λ (s : Turn). Turned x rs ts place′ seat′ n m c′ s) (sym one-more)
               (keeps-visited x rs ts place seat n m c (turn (tabletsIn ts m) (newcomer x) (round rs keys n h d)) (g .keeps) (g .place-size) (g .seat-size) (omega (arith, room-for-one ne)) i (rw ei relay-small) (room-for-one ne)
               (tabletsIn ts m) (entry (roundNumber rs keys n h d) (roundLimit rs keys n h d)) l place′ seat′ c′ (rw el (last-small i ei)) number
               (ap (greatest (tabletsIn ts m)) number ∙ greatest-last (f .rises) i (rw ei relay-small) last (f .greatest) ∙ ap (λ (z : ℕ). numberBefore ts z) (sym el))

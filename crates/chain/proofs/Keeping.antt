@@ -29,7 +29,7 @@ use Rattle.meaning.proofs.Places.{ascending-apart, ascending-fewer}
 use Rattle.meaning.proofs.More.{greatest-more}
 use Rattle.meaning.proofs.Placed.{Found}
 use Rattle.meaning.proofs.Right.{Rises, right-found}
-use Rattle.chain.specs.Chain.{nameAt, fromAt, linkAt, chainOf, Keeps}
+use Rattle.chain.specs.Chain.{nameAt, fromAt, linkAt, chainOf, Turned}
 use Rattle.chain.specs.Visit.{givesWay, Visited}
 
 -- ---- one visit
@@ -135,11 +135,11 @@ module _ (x : ℕ) (rs ts : List ℕ) where
   chain-ext place place′ seat seat′ (suc c) hp hs =
       rw (chain-ext place place′ seat seat′ c (λ i a b. hp i a (omega arith)) (λ i b. hs i (omega arith)), move-ext place place′ seat seat′ c (λ a. hp c a (omega arith)) hs)
 
-  pub keeps-start : (place seat : List ℕ) (n m : ℕ) → Keeps x rs ts place seat n m 0 (newcomer x)
+  pub keeps-start : (place seat : List ℕ) (n m : ℕ) → Turned x rs ts place seat n m 0 (newcomer x)
   unfolding nameAt fromAt chainOf newcomer
   keeps-start place seat n m = record { walker = refl; from = refl; chain = refl; places = λ i a b. absurd (omega arith); relays = λ i a. absurd (omega arith) }
 
-  module _ (place seat : List ℕ) (n m c : ℕ) (s : Turn) (k : Keeps x rs ts place seat n m c s) (lp : length place ≡ 256) (ls : length seat ≡ 256) (hc : c < 256) (r : ℕ) (hr : r < n) where
+  module _ (place seat : List ℕ) (n m c : ℕ) (s : Turn) (k : Turned x rs ts place seat n m c s) (lp : length place ≡ 256) (ls : length seat ≡ 256) (hc : c < 256) (r : ℕ) (hr : r < n) where
     -- the walker sits down at relay r
     sat : (place′ : List ℕ) → ((i : ℕ) → i ≤ c → getD place′ i 0 ≡ getD place i 0) → seats s (relayNumber rs r) ≡ chainOf x rs ts place′ (set seat c r) (suc c)
     unfolding seats chainOf linkAt
@@ -156,7 +156,7 @@ module _ (x : ℕ) (rs ts : List ℕ) where
 
     -- the tablet at place l - 1 gave way
     gave-way : c + 1 < 256 → (T : List Entry) (e : Entry) (l : ℕ) → 0 < l → l ≤ m → e .number ≡ relayNumber rs r → greatest T (e .number) ≡ tabletNumber ts (l - 1)
-        → Keeps x rs ts (set place (c + 1) (l - 1)) (set seat c r) n m (c + 1) (displacedBy T s e)
+        → Turned x rs ts (set place (c + 1) (l - 1)) (set seat c r) n m (c + 1) (displacedBy T s e)
     unfolding nameAt fromAt
     gave-way hc′ T e l hl hm en eg =
         let here : getD (set place (c + 1) (l - 1)) (c + 1) 0 ≡ l - 1 = getD-set-same place (c + 1) (l - 1) 0 (omega arith) in
@@ -178,12 +178,12 @@ module _ (x : ℕ) (rs ts : List ℕ) where
         stored-seat i a = stored (λ y v. y < suc c → v < n) seat c (omega arith) (λ p. hr) i (λ d p. k .relays i (omega arith)) a
 
     pub keeps-visited : c + 1 < 256 → (T : List Entry) (e : Entry) (l : ℕ) (place′ seat′ : List ℕ) (c′ : ℕ) → l ≤ m → e .number ≡ relayNumber rs r → greatest T (e .number) ≡ numberBefore ts l
-        → (w : ℕ) → w ≡ s .walker → Visited (givesWay ts w l) place seat place′ seat′ c r l c′ → Keeps x rs ts place′ seat′ n m c′ (turnAt T s e)
+        → (w : ℕ) → w ≡ s .walker → Visited (givesWay ts w l) place seat place′ seat′ c r l c′ → Turned x rs ts place′ seat′ n m c′ (turnAt T s e)
     keeps-visited hc′ T e l place′ seat′ c′ hm en eg w ew v =
         let b : givesWay ts w l ≡ ltb (s .walker) (greatest T (e .number)) = way-greatest ts w l ∙ ap (λ (z : ℕ). ltb z (numberBefore ts l)) ew ∙ ap (ltb (s .walker)) (sym eg) in
         split (givesWay ts w l)
         (λ y.
         let some-one : 0 < l = way-some ts w l y in
-        let g : Keeps x rs ts (set place (c + 1) (l - 1)) (set seat c r) n m (c + 1) (displacedBy T s e) = gave-way hc′ T e l some-one hm en (eg ∙ number-before ts l some-one) in
+        let g : Turned x rs ts (set place (c + 1) (l - 1)) (set seat c r) n m (c + 1) (displacedBy T s e) = gave-way hc′ T e l some-one hm en (eg ∙ number-before ts l some-one) in
         rw (turnAt-yes T s e (sym b ∙ y), v .seats, v .places, v .count, y) g)
         (λ y. rw (turnAt-no T s e (sym b ∙ y), v .seats, v .places, v .count, y) k)

@@ -38,7 +38,7 @@ chainOf x rs ts place seat zero = []
 chainOf x rs ts place seat (suc c) = chainOf x rs ts place seat c ++ (linkAt x rs ts place seat c ∷ [])
 
 -- the state of a turn: c sat down, and the next walks
-pub record Keeps (x : ℕ) (rs ts place seat : List ℕ) (n m c : ℕ) (s : Turn) : Type 0 where
+pub record Turned (x : ℕ) (rs ts place seat : List ℕ) (n m c : ℕ) (s : Turn) : Type 0 where
   pub walker : s .walker ≡ nameAt x ts place c
   pub from : s .from ≡ fromAt rs seat c
   pub chain : s .chain ≡ chainOf x rs ts place seat c
@@ -64,7 +64,7 @@ pub record Going (rs ts : List ℕ) (n m : ℕ) (keys : List ℕ) (h stop x : �
   pub few : c ≤ d
   pub place-size : length place ≡ mostRelays
   pub seat-size : length seat ≡ mostRelays
-  pub keeps : Keeps x rs ts place seat n m c (turn (tabletsIn ts m) (newcomer x) (round rs keys n h d))
+  pub keeps : Turned x rs ts place seat n m c (turn (tabletsIn ts m) (newcomer x) (round rs keys n h d))
 
 -- the newcomer first, then all who gave way: c of them sat down after the steps to the first slot with room
 pub record Chained (rs ts : List ℕ) (n m : ℕ) (keys : List ℕ) (h stop x c d : ℕ) (place seat : List ℕ) : Type 0 where

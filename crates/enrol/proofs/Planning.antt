@@ -48,12 +48,12 @@ pub refused-plan : {s : ℕ} {rs ts ms : List ℕ} {t : TabletNumber} (p : Enrol
 refused-plan p r e n h = record { refusal = e ∙ sym h; worked = λ d. absurd (true-false (sym d ∙ ap isDone e ∙ n)) }
 
 -- the refusals of the number, passed
-pub record Passed (x : ℕ) (there : Bool) (places m : ℕ) : Type 0 where
+pub record BarsPassed (x : ℕ) (there : Bool) (places m : ℕ) : Type 0 where
   pub some-number : 0 < x
   pub new : there ≡ false
   pub unused : m < places
 
-pub bars-passed : (x : ℕ) (there : Bool) (places m : ℕ) → isDone (newcomerRefusal x there places m) ≡ true → Passed x there places m
+pub bars-passed : (x : ℕ) (there : Bool) (places m : ℕ) → isDone (newcomerRefusal x there places m) ≡ true → BarsPassed x there places m
 unfolding newcomerRefusal isDone
 bars-passed x there places m h =
     let a = bar-passed (eqb x 0) _ _ refl h in
@@ -77,7 +77,7 @@ module _ {s : ℕ} {rs ts : List ℕ} {n m : ℕ} {v : Survey} (b : Start s rs t
   barred-plan {ms} p r e ep n = refused-plan p r ep n (number-refused s rs ts ms (Enrol t) b r (bars ms ∙ sym e) n)
 
   module _ (fine : isDone bar ≡ true) {h stop : ℕ} {opens : Bool} (k : Seeks (positions s) n (v .keys) (v .room) (t .0) h stop opens) where
-    free : Passed (t .0) there places m
+    free : BarsPassed (t .0) there places m
     free = bars-passed (t .0) there places m fine
 
     numbers-fine : (ms : List ℕ) → isDone (firstBar (Calls.wrongNumbers (lentOf s rs ts ms) (ringOf rs ts) (Enrol t))) ≡ true

@@ -8,7 +8,7 @@ ghost use Prim.Native.Nat.{ℕ, _/_, _≤_};
 ghost use lib.ListN.{length};
 ghost use Rattle.ring.specs.Scheme.{positions};
 ghost use Rattle.lent.specs.Table.{mostRelays};
-ghost use Rattle.order.specs.Keys.{Rising};
+ghost use Rattle.order.specs.Keys.{KeysRise};
 ghost use Rattle.survey.specs.Row.{Row};
 ghost use Rattle.enrol.specs.Enrol.{newcomerRefusal, Seeks, Prepared};
 
@@ -43,7 +43,7 @@ fn seek(
     next: &[u8; 256],
     t: ring::TabletNumber,
 ) -> Sought
-    requires { ⌜ (n ≤ mostRelays) × Rising n (now keys) × Row (now keys) (now room) n 0 (now next) ⌝ }
+    requires { ⌜ (n ≤ mostRelays) × KeysRise n (now keys) × Row (now keys) (now room) n 0 (now next) ⌝ }
     ensures { λ r. ⌜ Seeks (positions scheme) n (now (keys .entry)) (now (room .entry)) (t .0) (r .home) (r .stop) (r .opens) ⌝ }
 {
     let p = ring::tablet_at(scheme, t);

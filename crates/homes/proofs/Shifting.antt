@@ -16,7 +16,7 @@ use Rattle.lent.specs.Table.{mostRelays}
 use Rattle.lent.proofs.Loops.{stored}
 use Rattle.order.specs.Keys.{slotRelay, Slot}
 use Rattle.homes.specs.Shift.{skip, raised, lowered, KeysLess, KeysMore}
-use Rattle.homes.specs.Homes.{Moved}
+use Rattle.homes.specs.Homes.{HomesMoved}
 use Rattle.homes.proofs.Skipping.{skip-off, skip-one}
 
 -- ---- the slot of a relay
@@ -76,11 +76,11 @@ raising-end {after = after} {s = s} {x = x} h b o = record {
 
 -- ---- homes moved
 
-pub moved-none : (f : ℕ → ℕ → ℕ) (before : List ℕ) → Moved f 0 before before
+pub moved-none : (f : ℕ → ℕ → ℕ) (before : List ℕ) → HomesMoved f 0 before before
 moved-none f before = record { size = refl; moved = λ t h. absurd (not-suc-le-zero h); rest = λ t h. refl }
 
-pub moved-more : (f : ℕ → ℕ → ℕ) {j v : ℕ} {before after : List ℕ} → Moved f j before after → j < length before → v ≡ f j (getD after j 0)
-    → Moved f (j + 1) before (set after j v)
+pub moved-more : (f : ℕ → ℕ → ℕ) {j v : ℕ} {before after : List ℕ} → HomesMoved f j before after → j < length before → v ≡ f j (getD after j 0)
+    → HomesMoved f (j + 1) before (set after j v)
 moved-more f {j} {v} {before} {after} o h e = record {
   size = simp length-set (o .size);
   moved = λ t d.
@@ -88,5 +88,5 @@ moved-more f {j} {v} {before} {after} o h e = record {
   rest = λ t d. getD-set-other after j t v 0 (λ z. omega arith) ∙ o .rest t (omega arith);
 }
 
-pub moved-end : (f : ℕ → ℕ → ℕ) {j m : ℕ} {before after : List ℕ} → m ≤ j → j ≤ m → Moved f j before after → Moved f m before after
+pub moved-end : (f : ℕ → ℕ → ℕ) {j m : ℕ} {before after : List ℕ} → m ≤ j → j ≤ m → HomesMoved f j before after → HomesMoved f m before after
 moved-end f a b o = record { size = o .size; moved = λ t h. o .moved t (omega arith); rest = λ t h. o .rest t (omega arith) }

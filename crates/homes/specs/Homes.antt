@@ -9,7 +9,7 @@ use lib.ListN.{length, getD}
 use Rattle.ring.specs.Scheme.{Positions}
 use Rattle.lent.specs.Table.{mostRelays, mostTablets, tabletNumber, TabletsIn}
 use Rattle.lent.specs.Placing.{relayPositions}
-use Rattle.order.specs.Keys.{slotRelay, Rising, Ordered}
+use Rattle.order.specs.Keys.{slotRelay, KeysRise, Ordered}
 use Rattle.order.specs.Home.{keyAt, Home}
 use Rattle.homes.specs.Shift.{KeysLess, KeysMore}
 use Rattle.homes.specs.declared.Around.{Around}
@@ -33,7 +33,7 @@ pub record Homes (p : Positions) (rs ts : List ℕ) (n m : ℕ) (keys home : Lis
   pub from : (t : ℕ) → t < m → HomeAt keys n (p .tabletAt (tabletNumber ts t)) (getD home t 0)
 
 -- the first j homes have become f of the tablet's place and of what they were, and the others are as they were
-pub record Moved (f : ℕ → ℕ → ℕ) (j : ℕ) (before after : List ℕ) : Type 0 where
+pub record HomesMoved (f : ℕ → ℕ → ℕ) (j : ℕ) (before after : List ℕ) : Type 0 where
   pub size : length after ≡ length before
   pub moved : (t : ℕ) → t < j → getD after t 0 ≡ f t (getD before t 0)
   pub rest : (t : ℕ) → j ≤ t → getD after t 0 ≡ getD before t 0
@@ -62,13 +62,13 @@ pub record TakenOut (n m at : ℕ) (keys home : List ℕ) (r : Around) : Type 0 
   pub below : slot < n + 1
   pub is : slotRelay keys slot ≡ at
   pub shorter : KeysLess n slot at keys (r .keys)
-  pub moved : Moved (lessAt slot) m home (r .home)
+  pub moved : HomesMoved (lessAt slot) m home (r .home)
 
 -- n relays in ring order, and room for one more
 pub record PutsIn (ts : List ℕ) (n m at : ℕ) (keys : List ℕ) : Type 0 where
   pub few : n < mostRelays
   pub within : at ≤ n
-  pub rises : Rising n keys
+  pub rises : KeysRise n keys
   pub small : (k : ℕ) → k < n → getD keys k 0 < 2 ^ 64 - 1
   pub tablets : TabletsIn ts m
 
@@ -77,4 +77,4 @@ pub record PutIn (p : Positions) (ts : List ℕ) (n m at q : ℕ) (keys home : L
   pub slot : ℕ
   pub from : Home keys n (keyAt q + at) slot
   pub longer : KeysMore n slot at (keyAt q + at) keys (r .keys)
-  pub moved : Moved (moreAt p ts slot q) m home (r .home)
+  pub moved : HomesMoved (moreAt p ts slot q) m home (r .home)

@@ -8,7 +8,7 @@ ghost use Rattle.ring.specs.Scheme.{positions};
 ghost use Rattle.lent.specs.Table.{mostRelays, mostTablets, tabletPlaces, tabletNumber, TabletsIn};
 ghost use Rattle.order.specs.Keys.{slotRelay, Slot};
 ghost use Rattle.homes.specs.Shift.{skip, raised, lowered, KeysLess, KeysMore};
-ghost use Rattle.homes.specs.Homes.{Moved, homeLess, lessAt, homeMore, moreAt, TakenOut, PutsIn, PutIn};
+ghost use Rattle.homes.specs.Homes.{HomesMoved, homeLess, lessAt, homeMore, moreAt, TakenOut, PutsIn, PutIn};
 
 // The keys in ring order, and for each tablet the slot that its walk goes from.
 pub struct Around {
@@ -70,7 +70,7 @@ fn home_less(s: u8, h: u8) -> u8
 
 fn homes_less(home: &mut [u8; 4096], m: usize, s: u8)
     requires { ⌜ (m ≤ mostTablets) × (length (now home) ≡ mostTablets) ⌝ }
-    ensures { λ _. ⌜ Moved (lessAt s) m (now (home .entry)) (now (home .exit)) ⌝ }
+    ensures { λ _. ⌜ HomesMoved (lessAt s) m (now (home .entry)) (now (home .exit)) ⌝ }
 {
     let mut j: usize = 0;
     while j < m {
@@ -155,7 +155,7 @@ fn homes_more(
     q: ring::Position,
 )
     requires { ⌜ TabletsIn (now tablets) m × (length (now home) ≡ mostTablets) ⌝ }
-    ensures { λ _. ⌜ Moved (moreAt (positions scheme) (now (tablets .entry)) s (q .0)) m (now (home .entry)) (now (home .exit)) ⌝ }
+    ensures { λ _. ⌜ HomesMoved (moreAt (positions scheme) (now (tablets .entry)) s (q .0)) m (now (home .entry)) (now (home .exit)) ⌝ }
 {
     let mut j: usize = 0;
     while j < m {

@@ -14,8 +14,8 @@ use lib.ListN.{length}
 use Rattle.ring.proofs.Tests.{split, true-false, and-left, and-right}
 use Rattle.lent.specs.Table.{mostRelays, mostTablets}
 use Rattle.layout.specs.declared.Trailer.{Trailer}
-use Rattle.layout.specs.Opened.{said, unsaid, trailerOf}
-use Rattle.layout.specs.Roster.{trailerBytes, field, relayDistance, relayCount, tabletDistance, tabletCount, schemeOf, entryBytes, shaped, shapeRight, block, rosterRing}
+use Rattle.layout.specs.Opened.{opened, unopened, trailerOf}
+use Rattle.layout.specs.Roster.{trailerBytes, field, relayDistance, relayCount, tabletDistance, tabletCount, rosterScheme, entryBytes, shaped, shapeRight, block, rosterRing}
 
 module _ (len back n back₂ m : ℕ) where
   pub relays-many : mostRelays < n → false ≡ shaped len back n back₂ m
@@ -44,28 +44,28 @@ module _ (len back n back₂ m : ℕ) where
             rw (le-leb n mostRelays hn, le-leb m mostTablets hm, eq-eqb back₂ (trailerBytes + entryBytes * m) e, eq-eqb back (back₂ + entryBytes * n) h)
 
 module _ (b : List ℕ) where
-  long-said : leb trailerBytes (length b) ≡ true → trailerOf b ≡ said b
+  long-opened : leb trailerBytes (length b) ≡ true → trailerOf b ≡ opened b
   unfolding trailerOf
-  long-said s = rw (s, trailerOf)
+  long-opened s = rw (s, trailerOf)
 
-  short-unsaid : leb trailerBytes (length b) ≡ false → trailerOf b ≡ unsaid
+  short-unopened : leb trailerBytes (length b) ≡ false → trailerOf b ≡ unopened
   unfolding trailerOf
-  short-unsaid s = rw (s, trailerOf)
+  short-unopened s = rw (s, trailerOf)
 
   short-wrong : leb trailerBytes (length b) ≡ false → shapeRight b ≡ false
   unfolding shapeRight
   short-wrong s = rw s
 
   pub short-trailer : length b < trailerBytes → record { right = false; relays = 0; tablets = 0; scheme = 0 } ≡ trailerOf b
-  unfolding unsaid
-  short-trailer h = sym (short-unsaid (lt-leb trailerBytes (length b) h))
+  unfolding unopened
+  short-trailer h = sym (short-unopened (lt-leb trailerBytes (length b) h))
 
   pub long-trailer : trailerBytes ≤ length b → {back n back₂ m s : ℕ} → back ≡ field b 0 → n ≡ field b 1 → back₂ ≡ field b 2 → m ≡ field b 3 → s ≡ field b 4
       → {r : Bool} → r ≡ shaped (length b) back n back₂ m → record { right = r; relays = n; tablets = m; scheme = s } ≡ trailerOf b
-  unfolding said shapeRight
+  unfolding opened shapeRight
   long-trailer h p q p₂ q₂ c e =
       let l : leb trailerBytes (length b) ≡ true = le-leb trailerBytes (length b) h in
-      rw (long-said l, e, p, q, p₂, q₂, c, l)
+      rw (long-opened l, e, p, q, p₂, q₂, c, l)
 
 -- ---- what it says
 
@@ -73,24 +73,24 @@ module _ (b : List ℕ) where
 pub record Says (b : List ℕ) (t : Trailer) : Type 0 where
   pub relays : t .relays ≡ relayCount b
   pub tablets : t .tablets ≡ tabletCount b
-  pub scheme : t .scheme ≡ schemeOf b
+  pub scheme : t .scheme ≡ rosterScheme b
 
 module _ (b : List ℕ) {t : Trailer} (o : t ≡ trailerOf b) where
   pub trailer-right : t .right ≡ shapeRight b
-  unfolding said unsaid
+  unfolding opened unopened
   trailer-right =
       split (leb trailerBytes (length b))
-      (λ s. ap (λ (x : Trailer). x .right) (o ∙ long-said b s))
-      (λ s. ap (λ (x : Trailer). x .right) (o ∙ short-unsaid b s) ∙ sym (short-wrong b s))
+      (λ s. ap (λ (x : Trailer). x .right) (o ∙ long-opened b s))
+      (λ s. ap (λ (x : Trailer). x .right) (o ∙ short-unopened b s) ∙ sym (short-wrong b s))
 
   pub trailer-says : t .right ≡ true → Says b t
-  unfolding said unsaid
+  unfolding opened unopened
   trailer-says e =
       split (leb trailerBytes (length b))
       (λ s.
-      let u : t ≡ said b = o ∙ long-said b s in
+      let u : t ≡ opened b = o ∙ long-opened b s in
       record { relays = ap (λ (x : Trailer). x .relays) u; tablets = ap (λ (x : Trailer). x .tablets) u; scheme = ap (λ (x : Trailer). x .scheme) u })
-      (λ s. absurd (true-false (sym e ∙ ap (λ (x : Trailer). x .right) (o ∙ short-unsaid b s))))
+      (λ s. absurd (true-false (sym e ∙ ap (λ (x : Trailer). x .right) (o ∙ short-unopened b s))))
 
 -- ---- a right shape
 

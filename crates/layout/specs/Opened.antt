@@ -6,13 +6,13 @@ use Prim.Native.Nat.{ℕ}
 use lib.Dec.{leb}
 use lib.ListN.{length}
 use Rattle.layout.specs.declared.Trailer.{Trailer}
-use Rattle.layout.specs.Roster.{trailerBytes, shapeRight, relayCount, tabletCount, schemeOf}
+use Rattle.layout.specs.Roster.{trailerBytes, shapeRight, relayCount, tabletCount, rosterScheme}
 
-unfoldable pub said : List ℕ → Trailer
-said b = record { right = shapeRight b; relays = relayCount b; tablets = tabletCount b; scheme = schemeOf b }
+unfoldable pub opened : List ℕ → Trailer
+opened b = record { right = shapeRight b; relays = relayCount b; tablets = tabletCount b; scheme = rosterScheme b }
 
-unfoldable pub unsaid : Trailer
-unsaid = record { right = false; relays = 0; tablets = 0; scheme = 0 }
+unfoldable pub unopened : Trailer
+unopened = record { right = false; relays = 0; tablets = 0; scheme = 0 }
 
 unfoldable pub trailerOf : List ℕ → Trailer
-trailerOf b = elim (leb trailerBytes (length b)) [ true ↦ said b | false ↦ unsaid ]
+trailerOf b = elim (leb trailerBytes (length b)) [ true ↦ opened b | false ↦ unopened ]

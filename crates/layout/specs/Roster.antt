@@ -32,8 +32,8 @@ tabletDistance b = field b 2
 abbrev pub tabletCount : List ℕ → ℕ
 tabletCount b = field b 3
 
-abbrev pub schemeOf : List ℕ → ℕ
-schemeOf b = field b 4
+abbrev pub rosterScheme : List ℕ → ℕ
+rosterScheme b = field b 4
 
 -- ---- shape
 

@@ -1,8 +1,8 @@
 -- Decimals digit by digit, as a loop reads them.
 --   digit-least                    a digit is 48 or more
 --   leading-short, leading-long    where a leading zero can stand
---   grown-most, grown-next         one byte more
---   grown-all                      the loop ends in the value of digits up to 4294967295, and in 4294967296 for all else
+--   byte-most, byte-next           one byte more
+--   bytes-all                      the loop ends in the value of digits up to 4294967295, and in 4294967296 for all else
 --   decimal-empty, decimal-zero, decimal-is, decimal-not    what a word is
 -- Assumes nothing.
 use mathlib.Core.Bool.{Bool, true, false, _&&_, cond, and-false}
@@ -17,7 +17,7 @@ use lib.ListN.{length, getD, drop}
 use lib.Seq.{drop-cons}
 use Rattle.ring.proofs.Tests.{split, and-left, and-right}
 use Rattle.line.specs.declared.Number.the-variants.{Is, Not}
-use Rattle.line.specs.Decimal.{digit, allDigits, value, leadingZero, plain, decimalOf, grown, grownAll}
+use Rattle.line.specs.Decimal.{digit, allDigits, value, leadingZero, plain, decimalOf, withByte, withBytes}
 
 -- ---- digits
 
@@ -41,18 +41,18 @@ leading-long (b ∷ c ∷ more) h = refl
 
 -- ---- one byte more
 
-pub grown-most : (v b : ℕ) → grown v b ≤ 4294967296
-unfolding grown
-grown-most v b =
+pub byte-most : (v b : ℕ) → withByte v b ≤ 4294967296
+unfolding withByte
+byte-most v b =
     split (digit b)
     (λ d. split (ltb (v * 10 + (b - 48)) 4294967296)
     (λ s. rw (d, s) (omega (arith, ltb-true (v * 10 + (b - 48)) 4294967296 s)))
     (λ s. rw (d, s) (omega arith)))
     (λ d. rw d (omega arith))
 
-pub grown-next : (w : List ℕ) (v i : ℕ) → i < length w → grownAll v (drop i w) ≡ grownAll (grown v (getD w i 0)) (drop (i + 1) w)
-unfolding grownAll
-grown-next w v i h = rw (add-one, drop-cons w i 0)
+pub byte-next : (w : List ℕ) (v i : ℕ) → i < length w → withBytes v (drop i w) ≡ withBytes (withByte v (getD w i 0)) (drop (i + 1) w)
+unfolding withBytes
+byte-next w v i h = rw (add-one, drop-cons w i 0)
 
 -- ---- all of them
 
@@ -68,19 +68,19 @@ reading v bs = cond (allDigits bs && leb (value v bs) 4294967295) (value v bs) 4
 past : (v : ℕ) (bs : List ℕ) → 4294967295 < v → reading v bs ≡ 4294967296
 past v bs h = rw (lt-leb (value v bs) 4294967295 (omega (arith, value-most v bs)), and-false)
 
-pub grown-all : (v : ℕ) (bs : List ℕ) → v ≤ 4294967296 → grownAll v bs ≡ reading v bs
-unfolding grownAll grown value allDigits
-grown-all v [] h =
+pub bytes-all : (v : ℕ) (bs : List ℕ) → v ≤ 4294967296 → withBytes v bs ≡ reading v bs
+unfolding withBytes withByte value allDigits
+bytes-all v [] h =
     split (leb v 4294967295)
     (λ s. rw s)
     (λ s. rw s (omega (arith, leb-false v 4294967295 s)))
-grown-all v (b ∷ bs) h =
+bytes-all v (b ∷ bs) h =
     let w : ℕ = v * 10 + (b - 48) in
     split (digit b)
     (λ d. split (ltb w 4294967296)
-    (λ s. rw (d, s) (grown-all w bs (omega (arith, ltb-true w 4294967296 s))))
-    (λ s. rw (d, s) (grown-all 4294967296 bs (omega arith) ∙ past 4294967296 bs (omega arith) ∙ sym (past w bs (omega (arith, ltb-false w 4294967296 s))))))
-    (λ d. rw d (grown-all 4294967296 bs (omega arith) ∙ past 4294967296 bs (omega arith)))
+    (λ s. rw (d, s) (bytes-all w bs (omega (arith, ltb-true w 4294967296 s))))
+    (λ s. rw (d, s) (bytes-all 4294967296 bs (omega arith) ∙ past 4294967296 bs (omega arith) ∙ sym (past w bs (omega (arith, ltb-false w 4294967296 s))))))
+    (λ d. rw d (bytes-all 4294967296 bs (omega arith) ∙ past 4294967296 bs (omega arith)))
 
 -- ---- the number that a word is
 
@@ -97,12 +97,12 @@ module _ (w : List ℕ) (h : 0 < length w) (z : leadingZero w ≡ false) where
   unfolding decimalOf plain
   by-loop b e = rw (lt-ltb 0 (length w) h, z, e)
 
-  pub decimal-is : grownAll 0 w < 4294967296 → decimalOf w ≡ Is (grownAll 0 w)
+  pub decimal-is : withBytes 0 w < 4294967296 → decimalOf w ≡ Is (withBytes 0 w)
   decimal-is l = split (allDigits w && leb (value 0 w) 4294967295)
-      (λ s. by-loop true s ∙ ap Is (sym (rw s at (grown-all 0 w (omega arith)))))
-      (λ s. absurd (omega (arith, rw s at (grown-all 0 w (omega arith)))))
+      (λ s. by-loop true s ∙ ap Is (sym (rw s at (bytes-all 0 w (omega arith)))))
+      (λ s. absurd (omega (arith, rw s at (bytes-all 0 w (omega arith)))))
 
-  pub decimal-not : 4294967296 ≤ grownAll 0 w → decimalOf w ≡ Not
+  pub decimal-not : 4294967296 ≤ withBytes 0 w → decimalOf w ≡ Not
   decimal-not l = split (allDigits w && leb (value 0 w) 4294967295)
-      (λ s. absurd (omega (arith, rw s at (grown-all 0 w (omega arith)), leb-true (value 0 w) 4294967295 (and-right (allDigits w) (leb (value 0 w) 4294967295) s))))
+      (λ s. absurd (omega (arith, rw s at (bytes-all 0 w (omega arith)), leb-true (value 0 w) 4294967295 (and-right (allDigits w) (leb (value 0 w) 4294967295) s))))
       (λ s. by-loop false s)

@@ -9,7 +9,7 @@ use Rattle.line.specs.declared.Line.the-variants.{Call, Other}
 use Rattle.line.specs.declared.First as firsts
 use Rattle.line.specs.declared.First.the-variants as first
 use Rattle.line.specs.Decimal.{digit, allDigits, value, leadingZero, plain, decimalOf}
-use Rattle.line.specs.Line.{onto, words, letterOf, withOne, withTwo, said, meaningOf, behind, knownOr, named, schemeWord, schemeOf}
+use Rattle.line.specs.Line.{onto, words, letterOf, withOne, withTwo, said, meaningOf, following, knownOr, named, schemeWord, schemeOf}
 
 -- a line, and what it means
 pub record Example : Type 0 where
@@ -76,5 +76,5 @@ scheme more = 115 ∷ 99 ∷ 104 ∷ 101 ∷ 109 ∷ 101 ∷ more
 
 pub schemes-hold : schemes (scheme (32 ∷ 48 ∷ []) ∷ scheme (32 ∷ 49 ∷ []) ∷ scheme (32 ∷ 51 ∷ []) ∷ scheme (32 ∷ 48 ∷ 49 ∷ []) ∷ scheme (32 ∷ 32 ∷ 49 ∷ []) ∷ scheme [] ∷ scheme (32 ∷ 49 ∷ 13 ∷ []) ∷ [])
     ≡ (first.Scheme 0 ∷ first.Scheme 1 ∷ first.Other ∷ first.Other ∷ first.Other ∷ first.Other ∷ first.Other ∷ [])
-unfolding schemes scheme schemeOf schemeWord behind named knownOr known decimalOf plain digit allDigits value leadingZero
+unfolding schemes scheme schemeOf schemeWord following named knownOr known decimalOf plain digit allDigits value leadingZero
 schemes-hold = refl

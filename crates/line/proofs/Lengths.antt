@@ -16,7 +16,7 @@ use Rattle.line.specs.declared.Number.the-variants.{Not}
 use Rattle.line.specs.declared.Line.the-variants as line
 use Rattle.line.specs.declared.First.the-variants as first
 use Rattle.line.specs.Decimal.{digit, allDigits, value, leadingZero, plain, decimalOf}
-use Rattle.line.specs.Line.{onto, words, letterOf, withOne, withTwo, said, meaningOf, behind, knownOr, named, schemeWord, schemeOf}
+use Rattle.line.specs.Line.{onto, words, letterOf, withOne, withTwo, said, meaningOf, following, knownOr, named, schemeWord, schemeOf}
 use Rattle.line.proofs.Decimals.{digit-least, decimal-zero}
 use Rattle.line.proofs.Words.{two-not, one-none, two-none}
 
@@ -126,8 +126,8 @@ pub meaning-first : (l : List ℕ) → meaningOf (take 24 l) ≡ meaningOf l
 unfolding meaningOf
 meaning-first = first-bytes meaningOf line.Other (λ l h. said-long (words l) (omega (arith, words-span l)))
 
-behind-long : (p l : List ℕ) → length p + 10 < length l → named (behind p l) ≡ first.Other
-unfolding behind named knownOr
+behind-long : (p l : List ℕ) → length p + 10 < length l → named (following p l) ≡ first.Other
+unfolding following named knownOr
 behind-long [] l h = rw (decimal-long l (omega arith))
 behind-long (x ∷ p) [] h = refl
 behind-long (x ∷ p) (b ∷ l) h = split (eqb x b) (λ s. rw s (behind-long p l (omega arith))) (λ s. rw s)

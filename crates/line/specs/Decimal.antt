@@ -34,9 +34,9 @@ decimalOf word = cond (plain word) (Is (value 0 word)) Not
 
 -- ---- digit by digit, as a loop goes: 4294967296 stands for what is no number
 
-unfoldable pub grown : ℕ → ℕ → ℕ
-grown v b = cond (digit b) (cond (ltb (v * 10 + (b - 48)) 4294967296) (v * 10 + (b - 48)) 4294967296) 4294967296
+unfoldable pub withByte : ℕ → ℕ → ℕ
+withByte v b = cond (digit b) (cond (ltb (v * 10 + (b - 48)) 4294967296) (v * 10 + (b - 48)) 4294967296) 4294967296
 
-unfoldable pub grownAll : ℕ → List ℕ → ℕ
-grownAll v [] = v
-grownAll v (b ∷ bs) = grownAll (grown v b) bs
+unfoldable pub withBytes : ℕ → List ℕ → ℕ
+withBytes v [] = v
+withBytes v (b ∷ bs) = withBytes (withByte v b) bs

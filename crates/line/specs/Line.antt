@@ -66,10 +66,10 @@ meaningOf l = said (words l)
 -- ---- the first line
 
 -- what stands behind a beginning, in a line that begins so
-unfoldable pub behind : List ℕ → List ℕ → Option (List ℕ)
-behind [] l = some l
-behind (p ∷ ps) [] = none
-behind (p ∷ ps) (b ∷ bs) = cond (eqb p b) (behind ps bs) none
+unfoldable pub following : List ℕ → List ℕ → Option (List ℕ)
+following [] l = some l
+following (p ∷ ps) [] = none
+following (p ∷ ps) (b ∷ bs) = cond (eqb p b) (following ps bs) none
 
 -- a number of a scheme that there is
 unfoldable pub knownOr : Number → firsts.First
@@ -85,4 +85,4 @@ unfoldable pub schemeWord : List ℕ
 schemeWord = 115 ∷ 99 ∷ 104 ∷ 101 ∷ 109 ∷ 101 ∷ 32 ∷ []
 
 unfoldable pub schemeOf : List ℕ → firsts.First
-schemeOf l = named (behind schemeWord l)
+schemeOf l = named (following schemeWord l)

@@ -2,7 +2,7 @@
 ghost use mathlib.Core.Path.{_≡_};
 ghost use mathlib.Core.List.{[], _∷_};
 ghost use Prim.Native.Nat.{_≤_};
-ghost use Rattle.line.specs.Decimal.{digit, grown, grownAll, leadingZero, decimalOf};
+ghost use Rattle.line.specs.Decimal.{digit, withByte, withBytes, leadingZero, decimalOf};
 ghost use Rattle.line.specs.Line.{words, withOne, withTwo, said, meaningOf, schemeOf, knownOr};
 
 // The greatest number and one more, which stands for what is no number.
@@ -39,7 +39,7 @@ fn digit(b: u8) -> bool
 // The number v with one byte more behind it.
 fn with_byte(v: u64, b: u8) -> u64
     requires { ⌜ v ≤ 4294967296 ⌝ }
-    ensures { λ r. ⌜ r ≡ grown v b ⌝ }
+    ensures { λ r. ⌜ r ≡ withByte v b ⌝ }
 {
     if !digit(b) {
         return NONE;
@@ -50,7 +50,7 @@ fn with_byte(v: u64, b: u8) -> u64
 
 // The number that these bytes are, leading zeros taken.
 fn value(word: &[u8]) -> u64
-    ensures { λ r. ⌜ r ≡ grownAll 0 (now (word .entry)) ⌝ }
+    ensures { λ r. ⌜ r ≡ withBytes 0 (now (word .entry)) ⌝ }
 {
     let mut v: u64 = 0;
     let mut i = 0;

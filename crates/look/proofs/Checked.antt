@@ -20,7 +20,7 @@ use Rattle.survey.specs.Seats.{Surveyed}
 use Rattle.survey.specs.Tables.{ShapesOf}
 use Rattle.meaning.specs.Meaning.{Words}
 use Rattle.look.specs.declared.First.{First}
-use Rattle.look.specs.Start.{checked, verdict, Passed, FirstLook, Looks}
+use Rattle.look.specs.Start.{checked, verdict, NotBarred, FirstLook, Looks}
 
 -- every number that was read is a word
 pub words-of : (l : List ℕ) → ((i : ℕ) → Fits w32 (getD l i 0)) → Words l
@@ -97,7 +97,7 @@ module _ (s : ℕ) (rs ts : List ℕ) where
 
         done : isDone (f .refusal) ≡ true → Looks s rs ts (record { refusal = r; n = f .n; m = f .m; survey = v })
         done y =
-            let p : Passed s rs ts (f .n) (f .m) = o .passed y .1 in
+            let p : NotBarred s rs ts (f .n) (f .m) = o .passed y .1 in
             split (v .right)
             (λ t. let ok : right (positions s) rs ts ≡ true = sym (p .test) ∙ sym e ∙ t in
             record {

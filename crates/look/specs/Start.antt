@@ -25,7 +25,7 @@ unfoldable pub verdict : Refusal → Bool → Refusal
 verdict first fine = elim fine [ true ↦ first | false ↦ TablesNotRight ]
 
 -- nothing is refused before the placement is looked at: the tables are right as they are placed
-pub record Passed (scheme : ℕ) (rs ts : List ℕ) (n m : ℕ) : Type 0 where
+pub record NotBarred (scheme : ℕ) (rs ts : List ℕ) (n m : ℕ) : Type 0 where
   pub known : known scheme ≡ true
   pub relays : n ≡ relaysUsed rs
   pub tablets : m ≡ tabletsUsed ts
@@ -35,7 +35,7 @@ pub record FirstLook (scheme : ℕ) (rs ts : List ℕ) (f : First) : Type 0 wher
   pub relaysFit : RelaysIn rs (f .n)
   pub tabletsFit : TabletsIn ts (f .m)
   pub refused : isDone (f .refusal) ≡ false → (checked scheme rs ts ≡ f .refusal) × (f .m ≡ 0)
-  pub passed : isDone (f .refusal) ≡ true → (f .refusal ≡ Done) × Passed scheme rs ts (f .n) (f .m)
+  pub passed : isDone (f .refusal) ≡ true → (f .refusal ≡ Done) × NotBarred scheme rs ts (f .n) (f .m)
 
 -- the scheme is known and the tables are right: n relays and m tablets, and what was learnt of them
 pub record Start (scheme : ℕ) (rs ts : List ℕ) (n m : ℕ) (s : Survey) : Type 0 where

@@ -5,7 +5,7 @@ ghost use Prim.Native.Nat.{_/_, _<_, _≤_};
 ghost use lib.Dec.{eqb, leb};
 ghost use lib.ListN.{length};
 ghost use Rattle.lent.specs.Table.{mostRelays};
-ghost use Rattle.order.specs.Keys.{Rising};
+ghost use Rattle.order.specs.Keys.{KeysRise};
 ghost use Rattle.order.specs.Home.{keyAt, Begins, Home, arcs, arc, Starts, Marked};
 
 const ARCS: usize = 1024;
@@ -14,7 +14,7 @@ const ARC: u64 = 4194304;
 
 // The slot where a walk from slot h to the key x ends.
 pub fn advance(keys: &[u64; 256], n: usize, h: usize, x: u64) -> usize
-    requires { ⌜ (n ≤ mostRelays) × Rising n (now keys) × Begins (now keys) n x h ⌝ }
+    requires { ⌜ (n ≤ mostRelays) × KeysRise n (now keys) × Begins (now keys) n x h ⌝ }
     ensures { λ r. ⌜ Home (now (keys .entry)) n x r ⌝ }
 {
     let mut k = h;
@@ -56,7 +56,7 @@ pub fn in_turn(scheme: u32) -> bool
 
 // For each arc of the ring the slot where a walk to its positions may begin: the first where positions come in turn, since then none does.
 pub fn arc_starts(keys: &[u64; 256], n: usize, in_turn: bool) -> [u16; 1024]
-    requires { ⌜ (n ≤ mostRelays) × Rising n (now keys) ⌝ }
+    requires { ⌜ (n ≤ mostRelays) × KeysRise n (now keys) ⌝ }
     ensures { λ r. ⌜ Starts (now (keys .entry)) n arcs r ⌝ }
 {
     let mut start = [0u16; ARCS];
@@ -91,7 +91,7 @@ pub fn home_of(
     last: ring::Position,
     p: ring::Position,
 ) -> usize
-    requires { ⌜ (n ≤ mostRelays) × Rising n (now keys) × Starts (now keys) n arcs (now start) × Begins (now keys) n (keyAt (last .0)) h ⌝ }
+    requires { ⌜ (n ≤ mostRelays) × KeysRise n (now keys) × Starts (now keys) n arcs (now start) × Begins (now keys) n (keyAt (last .0)) h ⌝ }
     ensures { λ r. ⌜ Home (now (keys .entry)) n (keyAt (p .0)) r ⌝ }
 {
     let at = p.0 as u64;

@@ -22,16 +22,16 @@ use Rattle.write.specs.Places.{SetBeside}
 use Rattle.write.specs.Listing.{setMove}
 use Rattle.write.proofs.Listed.{listed-none, listed-more, length-listed}
 use Rattle.plan.specs.Changes.{changes, newRelay, changesTo}
-use Rattle.plan.specs.Carried.{Moves, Moved, Carries, Carried}
+use Rattle.plan.specs.Carried.{MovesOne, MovedOne, Carries, Carried}
 use Rattle.plan.proofs.Changing.{picks-same, picks-other, moveOf, changes-same, changes-other, changes-fewer}
 
 -- ---- one tablet's two relays compared
 
 module _ {rs ts ms : List ℕ} {i j c o n : ℕ} (eo : o ≡ tabletRelay ts j) (en : n ≡ relayNumber rs i) where
-  pub move-room : Moves rs ts ms i j c → (o ≡ n → ⊥) → 3 * (c + 1) ≤ length ms
+  pub move-room : MovesOne rs ts ms i j c → (o ≡ n → ⊥) → 3 * (c + 1) ≤ length ms
   move-room a h = a .room (ne-eqb (tabletRelay ts j) (relayNumber rs i) (λ e. h (eo ∙ e ∙ sym en)))
 
-  pub moved-none : o ≡ n → Moved rs ts ts ms ms i j c c
+  pub moved-none : o ≡ n → MovedOne rs ts ts ms ms i j c c
   moved-none e = record {
     tablets = record { size = refl; beside = sym eo ∙ e ∙ en; numbers = λ k. refl; besides = λ k d. refl };
     list = picks-same _ _ eo en e;
@@ -39,7 +39,7 @@ module _ {rs ts ms : List ℕ} {i j c o n : ℕ} (eo : o ≡ tabletRelay ts j) (
   }
 
   pub moved-made : {ts′ ms′ : List ℕ} {t : ℕ} → t ≡ tabletNumber ts j → (o ≡ n → ⊥) → ms′ ≡ setMove ms c t o n → SetBeside tabletNumber tabletRelay ts ts′ j n
-      → Moved rs ts ts′ ms ms′ i j c (c + 1)
+      → MovedOne rs ts ts′ ms ms′ i j c (c + 1)
   moved-made et h em s = record {
     tablets = rw (← en) s;
     list = em ∙ rw (et, eo, en) (picks-other _ _ eo en h);
@@ -111,7 +111,7 @@ module _ {rs relay ts ts′ ms ms′ : List ℕ} {m j c i : ℕ} (asked : Carrie
         length-append (changesTo rs relay ts j) (moveOf (tabletNumber ts) (tabletRelay ts) (newRelay rs relay) j ∷ []),
       )
 
-  pub carrying-moves : Moves rs ts′ ms′ i j c
+  pub carrying-moves : MovesOne rs ts′ ms′ i j c
   unfolding tabletPlaces
   carrying-moves = record {
     relay = rw e (asked .seated .relays j more);
@@ -119,7 +119,7 @@ module _ {rs relay ts ts′ ms ms′ : List ℕ} {m j c i : ℕ} (asked : Carrie
     room = λ t. omega (arith, one-more (sym same-test ∙ t), carrying-list asked (omega arith) s);
   }
 
-  module _ {ts″ ms″ : List ℕ} {c′ : ℕ} (d : Moved rs ts′ ts″ ms′ ms″ i j c c′) where
+  module _ {ts″ ms″ : List ℕ} {c′ : ℕ} (d : MovedOne rs ts′ ts″ ms′ ms″ i j c c′) where
     next-list : (ms″ ≡ listed (changesTo rs relay ts (j + 1)) ms) × (c′ ≡ length (changesTo rs relay ts (j + 1)))
     unfolding changesTo newRelay
     next-list =

@@ -15,13 +15,13 @@ use Rattle.plan.specs.Changes.{newRelay, changesTo}
 use Rattle.plan.specs.Plan.{Assigned}
 
 -- there is room in the list for the move of the tablet at place j, the c-th, where it is to have another relay
-pub record Moves (rs ts ms : List ℕ) (i j c : ℕ) : Type 0 where
+pub record MovesOne (rs ts ms : List ℕ) (i j c : ℕ) : Type 0 where
   pub relay : i < relayPlaces rs
   pub tablet : j < tabletPlaces ts
   pub room : eqb (tabletRelay ts j) (relayNumber rs i) ≡ false → 3 * (c + 1) ≤ length ms
 
 -- the tablet at place j has the relay at place i; where that is another than before it is listed
-pub record Moved (rs ts ts′ ms ms′ : List ℕ) (i j c c′ : ℕ) : Type 0 where
+pub record MovedOne (rs ts ts′ ms ms′ : List ℕ) (i j c c′ : ℕ) : Type 0 where
   pub tablets : SetBeside tabletNumber tabletRelay ts ts′ j (relayNumber rs i)
   pub list : ms′ ≡ cond (eqb (tabletRelay ts j) (relayNumber rs i)) ms (setMove ms c (tabletNumber ts j) (tabletRelay ts j) (relayNumber rs i))
   pub count : c′ ≡ cond (eqb (tabletRelay ts j) (relayNumber rs i)) c (c + 1)

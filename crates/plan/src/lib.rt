@@ -12,7 +12,7 @@ ghost use Rattle.meaning.specs.Meaning.{relaysIn};
 ghost use Rattle.homes.specs.Homes.{Homes};
 ghost use Rattle.plan.specs.Changes.{newRelay, changesTo};
 ghost use Rattle.plan.specs.Plan.{Limited, Plans, Assigned, Planned};
-ghost use Rattle.plan.specs.Carried.{Moves, Moved, Carries, Carried};
+ghost use Rattle.plan.specs.Carried.{MovesOne, MovedOne, Carries, Carried};
 
 // A refusal; or for each tablet the place of its relay.
 pub struct Plan {
@@ -123,8 +123,8 @@ fn move_one(
     j: usize,
     c: usize,
 ) -> usize
-    requires { ⌜ Moves (now relays) (now tablets) (now moves) i j c ⌝ }
-    ensures { λ r. ⌜ Moved (now (relays .entry)) (now (tablets .entry)) (now (tablets .exit)) (now (moves .entry)) (now (moves .exit)) i j c r ⌝ }
+    requires { ⌜ MovesOne (now relays) (now tablets) (now moves) i j c ⌝ }
+    ensures { λ r. ⌜ MovedOne (now (relays .entry)) (now (tablets .entry)) (now (tablets .exit)) (now (moves .entry)) (now (moves .exit)) i j c r ⌝ }
 {
     let old = lent::tablet_relay(tablets, j);
     let new = lent::relay_number(relays, i);

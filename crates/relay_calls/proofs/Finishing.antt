@@ -48,7 +48,7 @@ use Rattle.plan.specs.Carried.{Carries, Carried}
 use Rattle.plan.proofs.Changing.{count-most, moved-changes}
 use Rattle.plan.proofs.Planning.{ruled-relay, ruled-changes}
 use Rattle.relay_edit.specs.declared.Edit.{Edit}
-use Rattle.relay_edit.specs.Edited.{ownNumbers, About, Passed, Edits}
+use Rattle.relay_edit.specs.Edited.{ownNumbers, About, EditReady, Edits}
 use Rattle.relay_calls.specs.Finish.{Replaced}
 use Rattle.relay_calls.proofs.Replacing.{filled-replaced}
 
@@ -63,10 +63,10 @@ edit-refused {s} {rs} {ts} ms {c} {e = e} {reply = reply} o ed h er =
 -- ---- past them
 
 pub edit-passed : {s : ℕ} {rs ts : List ℕ} {c : Call} {x : ℕ} {e : Edit} {d : Bool} → Edits s rs ts c x e → d ≡ isDone (e .refusal) → not d ≡ false
-    → Passed s rs ts c (e .n) (e .m) (e .relays) (e .around)
+    → EditReady s rs ts c (e .n) (e .m) (e .relays) (e .around)
 edit-passed {d = d} o ed h = o .passed-on (sym ed ∙ not-false d h)
 
-module _ {s : ℕ} {rs ts : List ℕ} {c : Call} {n m : ℕ} {own : List ℕ} {around : Around} (o : Passed s rs ts c n m own around) where
+module _ {s : ℕ} {rs ts : List ℕ} {c : Call} {n m : ℕ} {own : List ℕ} {around : Around} (o : EditReady s rs ts c n m own around) where
   abbrev p : Positions
   p = positions s
 

@@ -41,7 +41,7 @@ pub record Written (rs ts : List ℕ) (c : Call) (n : ℕ) (own : List ℕ) : Ty
   pub fits : n ≤ relayPlaces rs
 
 -- none of the refusals 1 to 7 applies; the relays that are to be are in ring order, with the tablets' homes
-pub record Passed (s : ℕ) (rs ts : List ℕ) (c : Call) (n m : ℕ) (own : List ℕ) (around : Around) : Type 0 where
+pub record EditReady (s : ℕ) (rs ts : List ℕ) (c : Call) (n m : ℕ) (own : List ℕ) (around : Around) : Type 0 where
   pub used : ℕ
   pub survey : Survey
   pub start : Start s rs ts used m survey
@@ -54,4 +54,4 @@ pub record Passed (s : ℕ) (rs ts : List ℕ) (c : Call) (n m : ℕ) (own : Lis
 pub record Edits (s : ℕ) (rs ts : List ℕ) (c : Call) (r : ℕ) (e : Edit) : Type 0 where
   pub about : About c r
   pub refused : isDone (e .refusal) ≡ false → (ms : List ℕ) → refusal (positions s) (lentOf s rs ts ms) (ringOf rs ts) c ≡ e .refusal
-  pub passed-on : isDone (e .refusal) ≡ true → Passed s rs ts c (e .n) (e .m) (e .relays) (e .around)
+  pub passed-on : isDone (e .refusal) ≡ true → EditReady s rs ts c (e .n) (e .m) (e .relays) (e .around)

@@ -20,7 +20,7 @@ use Rattle.rule.specs.Rooms.{fill}
 use Rattle.rule.specs.Refusals.{isDone, firstBar}
 use Rattle.rule.proofs.Placing.{placement-fill}
 use Rattle.rule.proofs.Right.{Table, Right, table-is, right-is, right-from, placed-is, length-numbers}
-use Rattle.layout.specs.Roster.{shapeRight, relayCount, tabletCount, schemeOf, rosterRing}
+use Rattle.layout.specs.Roster.{shapeRight, relayCount, tabletCount, rosterScheme, rosterRing}
 use Rattle.roster.specs.Content.{numbered, ringRight, contentRight, tablesFit}
 use Rattle.roster.specs.Reading.{refusal}
 
@@ -65,12 +65,12 @@ module _ (p : Positions) (g : Ring) (e : Entries g) where
 
 module _ (b rs ts : List ℕ) where
   abbrev p : Positions
-  p = positions (schemeOf b)
+  p = positions (rosterScheme b)
 
   abbrev g : Ring
   g = rosterRing b
 
-  module _ (shape : shapeRight b ≡ true) (scheme : known (schemeOf b) ≡ true) (fit : tablesFit (relayCount b) (tabletCount b) rs ts ≡ true) (e : Entries g) where
+  module _ (shape : shapeRight b ≡ true) (scheme : known (rosterScheme b) ≡ true) (fit : tablesFit (relayCount b) (tabletCount b) rs ts ≡ true) (e : Entries g) where
     content-is : contentRight b ≡ right p g
     unfolding contentRight ringRight
     content-is = rw (rising-numbered 0 (g .relays) (e .relays), rising-numbered 0 (g .tablets) (e .tablets))

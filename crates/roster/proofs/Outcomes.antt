@@ -20,7 +20,7 @@ use Rattle.lent.specs.Table.{relayPlaces, tabletPlaces}
 use Rattle.lent.specs.Shape.{relayFits, tabletFits}
 use Rattle.write.specs.Tables.{flat, relayTable, tabletTable}
 use Rattle.layout.specs.declared.Trailer.{Trailer}
-use Rattle.layout.specs.Roster.{shapeRight, schemeOf, entryBytes, block, rosterRing}
+use Rattle.layout.specs.Roster.{shapeRight, rosterScheme, entryBytes, block, rosterRing}
 use Rattle.layout.specs.Opened.{trailerOf}
 use Rattle.layout.proofs.Trailers.{Says, trailer-right, trailer-says, Shape, shape-is, shape-ring}
 use Rattle.layout.proofs.Rows.{block-length}
@@ -43,7 +43,7 @@ module _ (b rs ts : List ℕ) where
       rw (e, settled-refused why b rs ts h)
       (record { reply = ap (λ (x : Reading). x .reply) er; scheme = ap (λ (x : Reading). x .scheme) er; relays = refl; tablets = refl })
 
-  taken-answers : refusal b rs ts ≡ Done → {r : Reading} {rs′ ts′ : List ℕ} → r .reply ≡ refusedBy Done → r .scheme ≡ schemeOf b
+  taken-answers : refusal b rs ts ≡ Done → {r : Reading} {rs′ ts′ : List ℕ} → r .reply ≡ refusedBy Done → r .scheme ≡ rosterScheme b
       → rs′ ≡ relayTable (length rs) (rosterRing b) → ts′ ≡ tabletTable (length ts) (rosterRing b) → Answers (after b rs ts) r rs′ ts′
   unfolding after settled taken isDone
   taken-answers e er es ers ets = rw (e, settled) (record { reply = er; scheme = es; relays = ers; tablets = ets })

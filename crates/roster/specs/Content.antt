@@ -8,7 +8,7 @@ use Rattle.rule.specs.Entry.{Entry}
 use Rattle.rule.specs.Rule.{Ring, right}
 use Rattle.lent.specs.Table.{relayPlaces, tabletPlaces}
 use Rattle.lent.specs.Shape.{relayFits, tabletFits}
-use Rattle.layout.specs.Roster.{schemeOf, rosterRing}
+use Rattle.layout.specs.Roster.{rosterScheme, rosterRing}
 
 -- no entry's number is zero
 unfoldable pub numbered : List Entry → Bool
@@ -20,7 +20,7 @@ ringRight scheme g = numbered (g .relays) && (numbered (g .tablets) && right (po
 
 -- no entry's number is zero, and the entries make right tables under the trailer's scheme
 unfoldable pub contentRight : List ℕ → Bool
-contentRight b = ringRight (schemeOf b) (rosterRing b)
+contentRight b = ringRight (rosterScheme b) (rosterRing b)
 
 -- whole places, no more than may be lent, and enough for so many relays and tablets
 unfoldable pub tablesFit : ℕ → ℕ → List ℕ → List ℕ → Bool

@@ -10,7 +10,7 @@ use Rattle.rule.specs.declared.Refusal.the-variants.{Done, SchemeUnknown, Roste
 use Rattle.rule.specs.declared.Reply.{Reply}
 use Rattle.rule.specs.Refusals.{isDone, refusedBy, bar, firstBar}
 use Rattle.write.specs.Tables.{relayTable, tabletTable}
-use Rattle.layout.specs.Roster.{shapeRight, relayCount, tabletCount, schemeOf, rosterRing}
+use Rattle.layout.specs.Roster.{shapeRight, relayCount, tabletCount, rosterScheme, rosterRing}
 use Rattle.roster.specs.declared.Reading.{Reading}
 use Rattle.roster.specs.Content.{contentRight, tablesFit}
 
@@ -19,7 +19,7 @@ unfoldable pub refusal : List ℕ → List ℕ → List ℕ → Refusal
 refusal b rs ts =
     firstBar
     (bar (not (shapeRight b)) RosterShapeWrong
-    ∷ bar (not (known (schemeOf b))) SchemeUnknown
+    ∷ bar (not (known (rosterScheme b))) SchemeUnknown
     ∷ bar (not (tablesFit (relayCount b) (tabletCount b) rs ts)) OutputUnfit
     ∷ bar (not (contentRight b)) RosterContentWrong
     ∷ [])
@@ -36,7 +36,7 @@ unfoldable pub taken : List ℕ → List ℕ → List ℕ → After
 taken b rs ts =
     record {
       reply = record { refusal = Done; relay = 0; passed = 0; moves = 0 };
-      scheme = schemeOf b;
+      scheme = rosterScheme b;
       relays = relayTable (length rs) (rosterRing b);
       tablets = tabletTable (length ts) (rosterRing b);
     }

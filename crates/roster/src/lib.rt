@@ -117,7 +117,7 @@ fn clear(table: &mut [u32], from: usize)
 }
 
 // A block of so many places in front of a table, and zeros in every place left over.
-fn fill(table: &mut [u32], block: &[u32], count: usize)
+fn fill_table(table: &mut [u32], block: &[u32], count: usize)
     requires { ⌜ (length (now block) ≡ 2 * count) × (2 * count ≤ length (now table)) ⌝ }
     ensures { λ _. ⌜ now (table .exit) ≡ filled (length (now (table .entry))) (now (block .entry)) ⌝ }
 {
@@ -147,8 +147,8 @@ fn take_over(
     if !full {
         return false;
     }
-    fill(relays, own_relays, n);
-    fill(tablets, own_tablets, m);
+    fill_table(relays, own_relays, n);
+    fill_table(tablets, own_tablets, m);
     true
 }
 

@@ -19,7 +19,7 @@ use Rattle.rule.proofs.Accepted.{bar-passed}
 use Rattle.lent.specs.Table.{relayPlaces, tabletPlaces}
 use Rattle.lent.specs.Shape.{relayFits, tabletFits}
 use Rattle.meaning.proofs.Places.{length-places}
-use Rattle.layout.specs.Roster.{shapeRight, relayDistance, relayCount, tabletDistance, tabletCount, schemeOf, block, rosterRing}
+use Rattle.layout.specs.Roster.{shapeRight, relayDistance, relayCount, tabletDistance, tabletCount, rosterScheme, block, rosterRing}
 use Rattle.roster.specs.Content.{numbered, ringRight, contentRight, tablesFit}
 use Rattle.roster.specs.Reading.{refusal, after, settled, taken}
 use Rattle.runs.specs.Runs.{tablesRight}
@@ -38,13 +38,13 @@ module _ (b rs ts : List ℕ) (done : isDone (refusal b rs ts) ≡ true) where
   bars₃ = bar (not (tablesFit (relayCount b) (tabletCount b) rs ts)) OutputUnfit ∷ bars₄
 
   abbrev bars₂ : List Bar
-  bars₂ = bar (not (known (schemeOf b))) SchemeUnknown ∷ bars₃
+  bars₂ = bar (not (known (rosterScheme b))) SchemeUnknown ∷ bars₃
 
   passed : (tablesFit (relayCount b) (tabletCount b) rs ts ≡ true) × (contentRight b ≡ true)
   unfolding refusal isDone
   passed =
       let h₁ : (not (shapeRight b) ≡ false) × (isDone (firstBar bars₂) ≡ true) = bar-passed (not (shapeRight b)) RosterShapeWrong bars₂ refl done in
-      let h₂ : (not (known (schemeOf b)) ≡ false) × (isDone (firstBar bars₃) ≡ true) = bar-passed (not (known (schemeOf b))) SchemeUnknown bars₃ refl (h₁ .1) in
+      let h₂ : (not (known (rosterScheme b)) ≡ false) × (isDone (firstBar bars₃) ≡ true) = bar-passed (not (known (rosterScheme b))) SchemeUnknown bars₃ refl (h₁ .1) in
       let h₃ : (not (tablesFit (relayCount b) (tabletCount b) rs ts) ≡ false) × (isDone (firstBar bars₄) ≡ true) =
       bar-passed (not (tablesFit (relayCount b) (tabletCount b) rs ts)) OutputUnfit bars₄ refl (h₂ .1) in
       let h₄ : (not (contentRight b) ≡ false) × (isDone (firstBar []) ≡ true) = bar-passed (not (contentRight b)) RosterContentWrong [] refl (h₃ .1) in
@@ -80,20 +80,20 @@ module _ (b rs ts : List ℕ) (done : isDone (refusal b rs ts) ≡ true) where
   tablets-room =
       omega (arith, block-length b (length b - tabletDistance b) (tabletCount b), leb-true (tabletCount b) (tabletPlaces ts) (and-right enoughRelays enoughTablets (and-right (tabletFits ts) (enoughRelays && enoughTablets) rest)))
 
-  ruled : Rule.right (positions (schemeOf b)) g ≡ true
+  ruled : Rule.right (positions (rosterScheme b)) g ≡ true
   unfolding contentRight ringRight
   ruled =
-      and-right (numbered (g .tablets)) (Rule.right (positions (schemeOf b)) g)
-      (and-right (numbered (g .relays)) (numbered (g .tablets) && Rule.right (positions (schemeOf b)) g) (passed .1))
+      and-right (numbered (g .tablets)) (Rule.right (positions (rosterScheme b)) g)
+      (and-right (numbered (g .relays)) (numbered (g .tablets) && Rule.right (positions (rosterScheme b)) g) (passed .1))
 
-  r : Right (positions (schemeOf b)) g
-  r = right-is (positions (schemeOf b)) g ruled
+  r : Right (positions (rosterScheme b)) g
+  r = right-is (positions (rosterScheme b)) g ruled
 
   after-taken : after b rs ts ≡ taken b rs ts
   unfolding after settled
   after-taken = rw (done, settled)
 
-  pub read-stands : Stands (schemeOf b) rs ts g (after b rs ts .relays) (after b rs ts .tablets)
+  pub read-stands : Stands (rosterScheme b) rs ts g (after b rs ts .relays) (after b rs ts .tablets)
   unfolding taken tablesRight
   read-stands =
       rw after-taken

@@ -1,13 +1,13 @@
 -- `homes::homes_less` meets its contract. The invariant: the first j homes have moved. The measure is how many are left. Assumes nothing.
 use Prim.Native.Nat.{_-_, _≤_}
 use native.Mathlib.Omega.{arith}
-use Rattle.homes.specs.Homes.{Moved, lessAt}
+use Rattle.homes.specs.Homes.{HomesMoved, lessAt}
 use Rattle.homes.proofs.Shifting.{moved-none, moved-more, moved-end}
 use Rattle.homes.proofs.homes_less.Statement.{statement}
 use Rattle.homes.proofs.homes_less.Tie as tie
 
 abbrev Inv-loop : tie.InvT-loop
-Inv-loop home₀ m s j₀ home j = (j ≤ m) × Moved (lessAt s) j home₀ home
+Inv-loop home₀ m s j₀ home j = (j ≤ m) × HomesMoved (lessAt s) j home₀ home
 
 abbrev μ-loop : tie.MeasureT-loop
 μ-loop home₀ m s j₀ home j = m - j

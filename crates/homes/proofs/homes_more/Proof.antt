@@ -2,13 +2,13 @@
 use Prim.Native.Nat.{_-_, _≤_}
 use native.Mathlib.Omega.{arith}
 use Rattle.ring.specs.Scheme.{positions}
-use Rattle.homes.specs.Homes.{Moved, moreAt}
+use Rattle.homes.specs.Homes.{HomesMoved, moreAt}
 use Rattle.homes.proofs.Shifting.{moved-none, moved-more, moved-end}
 use Rattle.homes.proofs.homes_more.Statement.{statement}
 use Rattle.homes.proofs.homes_more.Tie as tie
 
 abbrev Inv-loop : tie.InvT-loop
-Inv-loop scheme tablets home₀ m s q j₀ home j = (j ≤ m) × Moved (moreAt (positions scheme) tablets s (q .0)) j home₀ home
+Inv-loop scheme tablets home₀ m s q j₀ home j = (j ≤ m) × HomesMoved (moreAt (positions scheme) tablets s (q .0)) j home₀ home
 
 abbrev μ-loop : tie.MeasureT-loop
 μ-loop scheme tablets home₀ m s q j₀ home j = m - j

@@ -5,13 +5,13 @@ use Prim.Native.Nat.{_≤_, _+_, _-_}
 use native.Mathlib.Omega.{arith}
 use borrow.Author.Needs.{needs}
 use lib.ListN.{length, getD, drop, drop-of-length-le}
-use Rattle.line.specs.Decimal.{grownAll}
-use Rattle.line.proofs.Decimals.{grown-most, grown-next}
+use Rattle.line.specs.Decimal.{withBytes}
+use Rattle.line.proofs.Decimals.{byte-most, byte-next}
 use Rattle.line.proofs.value.Statement.{statement}
 use Rattle.line.proofs.value.Tie as tie
 
 abbrev Inv-loop : tie.InvT-loop
-Inv-loop word v₀ i₀ v i = (i ≤ length word) × ((v ≤ 4294967296) × (grownAll 0 word ≡ grownAll v (drop i word)))
+Inv-loop word v₀ i₀ v i = (i ≤ length word) × ((v ≤ 4294967296) × (withBytes 0 word ≡ withBytes v (drop i word)))
 
 abbrev μ-loop : tie.MeasureT-loop
 μ-loop word v₀ i₀ v i = length word - i
@@ -37,17 +37,17 @@ loop-again c =
     let w = c .before .before .before .before .before .args .word .now in (
       omega arith,
       (
-        omega (arith, c .with-byte .ensures, grown-most (l .v) (getD w (l .i) 0)),
-        l .inv .1 .1 ∙ grown-next w (l .v) (l .i) (c .before .before .loop-test .taken) ∙ ap (λ x. grownAll x (drop (l .i + 1) w)) (sym (c .with-byte .ensures)),
+        omega (arith, c .with-byte .ensures, byte-most (l .v) (getD w (l .i) 0)),
+        l .inv .1 .1 ∙ byte-next w (l .v) (l .i) (c .before .before .loop-test .taken) ∙ ap (λ x. withBytes x (drop (l .i + 1) w)) (sym (c .with-byte .ensures)),
       ),
     )
 
 returns : tie.Need-returns Inv-loop μ-loop
-unfolding grownAll
+unfolding withBytes
 returns c =
     let l = c .before .loop in
     let w = c .before .before .before .args .word .now in
-    sym (l .inv .1 .1 ∙ ap (grownAll (l .v)) (drop-of-length-le w (c .loop-test .left)))
+    sym (l .inv .1 .1 ∙ ap (withBytes (l .v)) (drop-of-length-le w (c .loop-test .left)))
 
 pub value-spec : {M : Type 1} → statement M
 value-spec =

@@ -26,11 +26,11 @@ same-length-2 c = search needs
 returns : tie.Need-returns
 returns c = taken-not _ _ _ _ (c .before .before .before .before .before .before .before .before .before .before .entries .ensures) (c .before .before .before .before .before .before .entries2 .ensures) (c .before .full-tables .ensures) (c .if1 .taken)
 
-fill-requires : tie.Need-fill-requires
-fill-requires c κs = search needs
+fill-table-requires : tie.Need-fill-table-requires
+fill-table-requires c κs = search needs
 
-fill-requires-2 : tie.Need-fill-requires-2
-fill-requires-2 c κs = search needs
+fill-table-requires-2 : tie.Need-fill-table-requires-2
+fill-table-requires-2 c κs = search needs
 
 same-length-3 : tie.Need-same-length-3
 same-length-3 c = search needs
@@ -45,7 +45,7 @@ same-length-6 : tie.Need-same-length-6
 same-length-6 c = search needs
 
 returns-2 : tie.Need-returns-2
-returns-2 c = taken-all _ _ _ _ (c .before .before .before .before .before .before .before .before .before .before .before .before .before .before .before .before .before .before .before .before .entries .ensures) (c .before .before .before .before .before .before .before .before .before .before .before .before .before .before .before .before .entries2 .ensures) (c .before .before .before .before .before .before .before .before .before .before .before .full-tables .ensures) (c .before .before .before .before .before .before .before .before .before .before .if1 .left) (c .before .before .before .before .before .before .before .fill .ensures) (c .before .before .fill2 .ensures)
+returns-2 c = taken-all _ _ _ _ (c .before .before .before .before .before .before .before .before .before .before .before .before .before .before .before .before .before .before .before .before .entries .ensures) (c .before .before .before .before .before .before .before .before .before .before .before .before .before .before .before .before .entries2 .ensures) (c .before .before .before .before .before .before .before .before .before .before .before .full-tables .ensures) (c .before .before .before .before .before .before .before .before .before .before .if1 .left) (c .before .before .before .before .before .before .before .fill-table .ensures) (c .before .before .fill-table2 .ensures)
 
 pub take-over-spec : {M : Type 1} → statement M
 take-over-spec =
@@ -58,8 +58,8 @@ take-over-spec =
     same-length
     same-length-2
     returns
-    fill-requires
-    fill-requires-2
+    fill-table-requires
+    fill-table-requires-2
     same-length-3
     same-length-4
     same-length-5

@@ -1,8 +1,8 @@
--- `roster::fill` meets its contract: the block is copied, and what lies behind it cleared. Assumes nothing.
+-- `roster::fill_table` meets its contract: the block is copied, and what lies behind it cleared. Assumes nothing.
 use borrow.Author.Needs.{needs}
 use Rattle.roster.proofs.Fronts.{front-filled}
-use Rattle.roster.proofs.fill.Statement.{statement}
-use Rattle.roster.proofs.fill.Tie as tie
+use Rattle.roster.proofs.fill_table.Statement.{statement}
+use Rattle.roster.proofs.fill_table.Tie as tie
 
 copy-requires : tie.Need-copy-requires
 copy-requires c κs = search needs
@@ -16,5 +16,5 @@ same-length c = search needs
 returns : tie.Need-returns
 returns c = front-filled _ _ (c .before .before .before .before .before .before .copy .kept .0) (c .before .before .before .before .before .before .copy .ensures) (c .before .before .clear .ensures)
 
-pub fill-spec : {M : Type 1} → statement M
-fill-spec = tie.close (tie.spec copy-requires clear-requires same-length returns)
+pub fill-table-spec : {M : Type 1} → statement M
+fill-table-spec = tie.close (tie.spec copy-requires clear-requires same-length returns)
