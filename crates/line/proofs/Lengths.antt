@@ -1,5 +1,6 @@
 -- A line that means something is short, so its first bytes say what it means.
 --   meaning-first, scheme-first    a line means what its first 24 bytes mean
+--   scheme-long                    a line of 24 bytes or more names no scheme
 -- Assumes nothing.
 use mathlib.Core.Bool.{true, false, and-false}
 use mathlib.Core.List.{List, [], _∷_}
@@ -132,6 +133,9 @@ behind-long [] l h = rw (decimal-long l (omega arith))
 behind-long (x ∷ p) [] h = refl
 behind-long (x ∷ p) (b ∷ l) h = split (eqb x b) (λ s. rw s (behind-long p l (omega arith))) (λ s. rw s)
 
-pub scheme-first : (l : List ℕ) → schemeOf (take 24 l) ≡ schemeOf l
+pub scheme-long : (l : List ℕ) → 23 < length l → schemeOf l ≡ first.Other
 unfolding schemeOf schemeWord
-scheme-first = first-bytes schemeOf first.Other (λ l h. behind-long schemeWord l (omega arith))
+scheme-long l h = behind-long schemeWord l (omega arith)
+
+pub scheme-first : (l : List ℕ) → schemeOf (take 24 l) ≡ schemeOf l
+scheme-first = first-bytes schemeOf first.Other scheme-long
