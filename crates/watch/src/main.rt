@@ -1,5 +1,11 @@
 // Runs calls from standard input, a line to each, and answers a line as soon as it is read (document 01, "A drill to prove";
-// docs/DECISIONS.md, reading 9). What a line means is `line`'s, what a call does `calls`'s, how an answer reads `answer`'s.
+// docs/DECISIONS.md, reading 9). What a byte of the input does is `desk`'s. Here bytes are read, and answers written.
+ghost use mathlib.Core.List.{[], _∷_};
+ghost use mathlib.Core.Path.{_≡_};
+ghost use Prim.Native.Nat.{_≤_, _<_, min};
+ghost use lib.ListN.{length, take};
+ghost use lib.Seq.{sets};
+
 const STDIN: i32 = 0;
 
 const STDOUT: i32 = 1;
@@ -11,180 +17,85 @@ const TABLETS: usize = 8192;
 
 const MOVES: usize = 12288;
 
-// A line means what its first 24 bytes mean, so no more are kept (`meaning-first` in `line`).
+// A line is answered as its first 24 bytes are, so no more are kept (`answered-first` in `desk`).
 const KEPT: usize = 24;
 
-// The longest answer: 44 bytes, and 35 for each of 4,096 moves (`answer-room` in `answer`).
+// The longest answer: 44 bytes, and 35 for each of 4,096 moves (`takes-whole` in `desk`).
 const ANSWER: usize = 143404;
 
-// What the next line is: the first, which names the scheme, or a call under a scheme; or there is none, since the run is over.
-enum Stage {
-    First,
-    Under(u32),
-    Over,
+// What a read brought: how many bytes, and whether the input has ended.
+struct Brought {
+    count: usize,
+    ended: bool,
 }
 
-// Where a run stands: the stage, and how many bytes of the line that is being read are kept.
-struct Standing {
-    stage: Stage,
-    kept: usize,
-}
-
-// ---- answers
-
-// Writes the first n bytes. Where that fails nobody reads on, and the run is over.
-fn send(answer: &[u8], n: usize, next: Stage) -> Stage {
-    if answer.len() < n {
-        return Stage::Over;
+// A last line without a newline is a line: where bytes of it are kept, a newline is still to be taken.
+fn last_newline(chunk: &mut [u8], kept: usize) -> usize
+    requires { ⌜ 0 < length (now chunk) ⌝ }
+    ensures { λ r. ⌜ (r ≡ min kept 1) × (now (chunk .exit) ≡ sets (now (chunk .entry)) 0 (take r (10 ∷ []))) ⌝ }
+{
+    if kept == 0 {
+        return 0;
     }
-    let sent = io::write_all(STDOUT, &answer[0..n]);
-    if sent { next } else { Stage::Over }
+    chunk[0] = b'\n';
+    1
 }
 
-fn unknown(next: Stage) -> Stage {
-    send(b"?\n", 2, next)
-}
-
-fn first_line(answer: &mut [u8], line: &[u8]) -> Stage {
-    match line::scheme_of(line) {
-        line::First::Scheme(scheme) => {
-            let n = answer::echo(answer, line);
-            send(answer, n, Stage::Under(scheme))
-        }
-        line::First::Other => unknown(Stage::Over),
-    }
-}
-
-fn next_line(
-    relays: &mut [u32],
-    tablets: &mut [u32],
-    moves: &mut [u32],
-    answer: &mut [u8],
-    scheme: u32,
-    line: &[u8],
-) -> Stage {
-    match line::meaning(line) {
-        line::Line::Call(c) => {
-            // Nobody asks for the counts.
-            let mut tally = [0u32; 4];
-            let reply = calls::call(scheme, relays, tablets, moves, &mut tally, c);
-            let n = answer::answer(answer, reply, moves);
-            send(answer, n, Stage::Under(scheme))
-        }
-        line::Line::Other => unknown(Stage::Under(scheme)),
-    }
-}
-
-fn answered(
-    relays: &mut [u32],
-    tablets: &mut [u32],
-    moves: &mut [u32],
-    answer: &mut [u8],
-    stage: Stage,
-    line: &[u8],
-) -> Stage {
-    match stage {
-        Stage::First => first_line(answer, line),
-        Stage::Under(scheme) => next_line(relays, tablets, moves, answer, scheme, line),
-        Stage::Over => Stage::Over,
-    }
-}
-
-// ---- lines
-
-// One byte of the input.
-fn take_byte(
-    relays: &mut [u32],
-    tablets: &mut [u32],
-    moves: &mut [u32],
-    answer: &mut [u8],
-    line: &mut [u8],
-    now: Standing,
-    b: u8,
-) -> Standing {
-    let stage = now.stage;
-    let kept = now.kept;
-    if line.len() < kept {
-        return now;
-    }
-    if b == b'\n' {
-        let next = answered(relays, tablets, moves, answer, stage, &line[0..kept]);
-        return Standing {
-            stage: next,
-            kept: 0,
+// Reads once.
+fn bring(chunk: &mut [u8], kept: usize) -> Brought
+    requires { ⌜ 0 < length (now chunk) ⌝ }
+    ensures { λ r. ⌜ r .count ≤ length (now (chunk .exit)) ⌝ }
+{
+    let got = libc::read(STDIN, chunk);
+    let n = io::count(got, chunk);
+    if n == 0 {
+        let last = last_newline(chunk, kept);
+        return Brought {
+            count: last,
+            ended: true,
         };
     }
-    if kept == line.len() {
-        return now;
-    }
-    line[kept] = b;
-    Standing {
-        stage: stage,
-        kept: kept + 1,
+    Brought {
+        count: n,
+        ended: false,
     }
 }
 
+// Writes the answer that is due. Where that fails nobody reads on, and the run is over.
+fn send(answer: &[u8], at: desk::Standing) -> desk::Standing
+    requires { ⌜ at .due ≤ length (now answer) ⌝ }
+{
+    let due = at.due;
+    let sent = io::write_all(STDOUT, &answer[0..due]);
+    if sent {
+        at
+    } else {
+        desk::Standing {
+            stage: desk::Stage::Over,
+            kept: 0,
+            due: 0,
+        }
+    }
+}
+
+// Takes the bytes of a chunk, and sends each answer as soon as its line has ended.
 fn take_chunk(
     relays: &mut [u32],
     tablets: &mut [u32],
     moves: &mut [u32],
     answer: &mut [u8],
     line: &mut [u8],
-    start: Standing,
+    start: desk::Standing,
     chunk: &[u8],
-) -> Standing {
-    let mut now = start;
+) -> desk::Standing {
+    let mut at = start;
     let mut i = 0;
     while i < chunk.len() {
-        now = take_byte(relays, tablets, moves, answer, line, now, chunk[i]);
+        let next = desk::take_byte(relays, tablets, moves, answer, line, at, chunk[i]);
+        at = send(answer, next);
         i += 1;
     }
-    now
-}
-
-// The input has ended. A last line without a newline is a line.
-fn finish(
-    relays: &mut [u32],
-    tablets: &mut [u32],
-    moves: &mut [u32],
-    answer: &mut [u8],
-    line: &mut [u8],
-    now: Standing,
-) -> Standing {
-    if 0 < now.kept {
-        take_byte(relays, tablets, moves, answer, line, now, b'\n');
-    }
-    Standing {
-        stage: Stage::Over,
-        kept: 0,
-    }
-}
-
-// Reads once, and answers the lines that are whole.
-fn turn(
-    relays: &mut [u32],
-    tablets: &mut [u32],
-    moves: &mut [u32],
-    answer: &mut [u8],
-    line: &mut [u8],
-    now: Standing,
-) -> Standing {
-    let mut chunk = io::buffer();
-    let got = libc::read(STDIN, &mut chunk);
-    let n = io::count(got, &chunk);
-    if n == 0 {
-        return finish(relays, tablets, moves, answer, line, now);
-    }
-    take_chunk(relays, tablets, moves, answer, line, now, &chunk[..n])
-}
-
-fn over(now: Standing) -> bool {
-    let stage = now.stage;
-    match stage {
-        Stage::First => false,
-        Stage::Under(_) => false,
-        Stage::Over => true,
-    }
+    at
 }
 
 // A proved loop has to end, and nothing says that the input does. So the turns are counted down.
@@ -194,21 +105,30 @@ fn main() {
     let mut moves = [0u32; MOVES];
     let mut answer = [0u8; ANSWER];
     let mut line = [0u8; KEPT];
-    let mut now = Standing {
-        stage: Stage::First,
+    let mut chunk = io::buffer();
+    let mut at = desk::Standing {
+        stage: desk::Stage::First,
         kept: 0,
+        due: 0,
     };
     let mut turns = u64::MAX;
     while turns > 0 {
-        now = turn(
+        let kept = at.kept;
+        let brought = bring(&mut chunk, kept);
+        let count = brought.count;
+        at = take_chunk(
             &mut relays,
             &mut tablets,
             &mut moves,
             &mut answer,
             &mut line,
-            now,
+            at,
+            &chunk[0..count],
         );
-        if over(now) {
+        if brought.ended {
+            return;
+        }
+        if desk::over(at) {
             return;
         }
         turns -= 1;

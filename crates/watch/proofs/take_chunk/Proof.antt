@@ -1,17 +1,20 @@
--- `watch::take_chunk` is safe and ends: what is left of the chunk falls, and what is lent keeps its length. Assumes nothing.
+-- `watch::take_chunk` is safe and ends: what is left of the chunk falls, what is lent keeps its length, and no more is due than the slice for the
+-- answer holds. Assumes nothing.
 use mathlib.Core.Path.{_≡_}
-use Prim.Native.Nat.{_≤_, _-_}
+use Prim.Native.Nat.{_≤_, _<_, _-_}
+use native.Mathlib.Omega.{arith}
 use borrow.Author.Needs.{needs}
 use lib.ListN.{length}
+use Rattle.desk.proofs.Room.{takes-due}
 use Rattle.watch.proofs.take_chunk.Statement.{statement}
 use Rattle.watch.proofs.take_chunk.Tie as tie
 
 abbrev Inv-loop : tie.InvT-loop
-Inv-loop relays₀ tablets₀ moves₀ answer₀ line₀ chunk now₀ i₀ relays tablets moves answer line now i =
-    (i ≤ length chunk) × ((length relays ≡ length relays₀) × ((length tablets ≡ length tablets₀) × ((length moves ≡ length moves₀) × ((length answer ≡ length answer₀) × (length line ≡ length line₀)))))
+Inv-loop relays₀ tablets₀ moves₀ answer₀ line₀ chunk at₀ i₀ relays tablets moves answer line at i =
+    (i ≤ length chunk) × ((length chunk < 18446744073709551616) × ((length relays ≡ length relays₀) × ((length tablets ≡ length tablets₀) × ((length moves ≡ length moves₀) × ((length answer ≡ length answer₀) × (length line ≡ length line₀))))))
 
 abbrev μ-loop : tie.MeasureT-loop
-μ-loop relays₀ tablets₀ moves₀ answer₀ line₀ chunk now₀ i₀ relays tablets moves answer line now i =
+μ-loop relays₀ tablets₀ moves₀ answer₀ line₀ chunk at₀ i₀ relays tablets moves answer line at i =
     length chunk - i
 
 loop-holds : tie.Need-loop-holds Inv-loop μ-loop
@@ -23,8 +26,13 @@ shared-slice-read-take-byte c = search needs
 take-byte-requires : tie.Need-take-byte-requires Inv-loop μ-loop
 take-byte-requires c κs = search needs
 
+send-requires : tie.Need-send-requires Inv-loop μ-loop
+send-requires c κs = takes-due (c .before .before .before .before .before .before .before .before .before .before .before .take-byte .ensures)
+
 add-i : tie.Need-add-i Inv-loop μ-loop
-add-i c = search needs
+add-i c =
+    let turn = c .before .before .before .before .before .before .before .before .before .before .before .before .before .before .before .before .before .before .before in
+    omega (arith, turn .loop-test .taken, turn .before .loop .inv .1 .0)
 
 loop-less : tie.Need-loop-less Inv-loop μ-loop
 loop-less c = search needs
@@ -59,6 +67,7 @@ take-chunk-spec =
     loop-holds
     shared-slice-read-take-byte
     take-byte-requires
+    send-requires
     add-i
     loop-less
     loop-again

@@ -1,0 +1,36 @@
+-- From what a call did, and from what was put, to the promise of a line.
+--   says-text       an answer that was put
+--   answers-said    one to a line that leaves all that is lent
+--   answers-call    one to a call
+-- Assumes nothing.
+use mathlib.Core.List.{List}
+use mathlib.Core.Path.{_≡_, refl, ap, _∙_}
+use Prim.Native.Nat.{ℕ}
+use Rattle.rule.specs.declared.Call.{Call}
+use Rattle.rule.specs.declared.Reply.{Reply}
+use Rattle.look.specs.Promise.{after}
+use Rattle.calls.specs.Promise.{Keeps}
+use Rattle.answer.specs.Text.{Puts, answerText}
+use Rattle.answer.proofs.Putting.{puts-text}
+use Rattle.desk.specs.declared.Stage.{Stage}
+use Rattle.desk.specs.declared.Stage.the-variants.{Under}
+use Rattle.desk.specs.declared.Standing.{Standing}
+use Rattle.desk.specs.Lines.{Said, says, unchanged, called, Says, Answers}
+
+pub says-text : {next : Stage} {out t out′ : List ℕ} {n : ℕ} → Puts out 0 t out′ n → Says (says next t) out (record { stage = next; kept = 0; due = n }) out′
+unfolding says
+says-text p = record { stage = refl; kept = refl; puts = p }
+
+pub answers-said : {s : Said} {rs ts ms out out′ : List ℕ} {r : Standing} → Says s out r out′ → Answers (unchanged rs ts ms s) out r rs ts ms out′
+unfolding unchanged
+answers-said p = record { answer = p; relays = refl; tablets = refl; moves = refl }
+
+module _ {s : ℕ} {rs ts ms tally : List ℕ} {c : Call} {r : Reply} {rs′ ts′ ms′ tally′ out out′ : List ℕ} {n : ℕ} where
+  pub answers-call : Keeps s rs ts ms tally c r rs′ ts′ ms′ tally′ → Puts out 0 (answerText r ms′) out′ n
+      → Answers (called s (after s rs ts ms c)) out (record { stage = Under s; kept = 0; due = n }) rs′ ts′ ms′ out′
+  unfolding called
+  answers-call k p =
+      let a = k .answers in
+      let reply : Reply = after s rs ts ms c .reply in
+      let e : answerText r ms′ ≡ answerText reply (after s rs ts ms c .moves) = ap (λ (x : Reply). answerText x ms′) (a .reply) ∙ ap (answerText reply) (a .moves) in
+      record { answer = says-text (puts-text e p); relays = a .relays; tablets = a .tablets; moves = a .moves }
