@@ -74,10 +74,10 @@ pub fn arc_starts(keys: &[u64; 256], n: usize, in_turn: bool) -> [u16; 1024]
 }
 
 // May a walk to p go on from the home of the last position?
-fn goes_on(in_turn: bool, last: u32, p: u32) -> bool
-    ensures { λ r. ⌜ r ≡ (in_turn && leb last p) ⌝ }
+fn goes_on(in_turn: bool, last: ring::Position, p: ring::Position) -> bool
+    ensures { λ r. ⌜ r ≡ (in_turn && leb (last .0) (p .0)) ⌝ }
 {
-    if in_turn { last <= p } else { false }
+    if in_turn { last.0 <= p.0 } else { false }
 }
 
 // The home of position p. Where positions come in turn, the walk begins at h, the home of the last position, if p is not before that;
@@ -96,7 +96,7 @@ pub fn home_of(
 {
     let at = p.0 as u64;
     let x = at * 4294967296;
-    let on = goes_on(in_turn, last.0, p.0);
+    let on = goes_on(in_turn, last, p);
     if on {
         return advance(keys, n, h, x);
     }
