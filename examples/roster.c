@@ -30,10 +30,10 @@ int main(int count, char **words) {
     }
     printf("scheme %" PRIu32 "\n", scheme);
 
+    wairepomuro_tablet_number tablet = {(uint32_t)strtoul(words[1], NULL, 10)};
     uint32_t tally[4] = {0};
     wairepomuro_reply reply;
-    wairepomuro_enrol(scheme, relays, 2 * RELAY_PLACES, tablets, 2 * TABLET_PLACES, moves, 3 * TABLET_PLACES, tally, 4,
-                      (uint32_t)strtoul(words[1], NULL, 10), &reply);
+    wairepomuro_enrol(scheme, relays, 2 * RELAY_PLACES, tablets, 2 * TABLET_PLACES, moves, 3 * TABLET_PLACES, tally, 4, tablet, &reply);
     printf("%" PRIu32 " %" PRIu32 " %" PRIu32 " %" PRIu32 "\n", reply.refusal, reply.relay, reply.passed, reply.moves);
     for (uint32_t i = 0; i < reply.moves; i++) {
         printf("m %" PRIu32 " %" PRIu32 " %" PRIu32 "\n", moves[3 * i], moves[3 * i + 1], moves[3 * i + 2]);

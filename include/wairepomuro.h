@@ -17,6 +17,10 @@
  *   tally     four: accepted enrolments, accepted withdrawals, moves, refusals. Each stops at 4294967295. A slice of another length is left
  *             as it is, and the call does and replies the same.
  *
+ * The relay or tablet that a call is about is named by a number of its own kind: (wairepomuro_relay_number){10} in C, and in C++
+ * wairepomuro_relay_number{10}. With the other kind, or with a plain number, the call does not compile. Numbers in lent slices and replies are
+ * plain. The archive is for x86-64 and the System V calling convention, by which a structure of one 32-bit number is passed as that number is.
+ *
  * Scheme 0 puts a number at its own position; scheme 1 at the FNV-1a hash of a tag and the number.
  *
  * A call answers with a refusal number and writes the same number, with the rest of the reply, to *reply. Where it is not 0, relay, passed and
@@ -48,6 +52,15 @@
 extern "C" {
 #endif
 
+/* The numbers of relays and those of tablets. Relay 10 and tablet 10 may both exist. */
+typedef struct {
+    uint32_t number;
+} wairepomuro_relay_number;
+
+typedef struct {
+    uint32_t number;
+} wairepomuro_tablet_number;
+
 typedef struct {
     uint32_t refusal;
     uint32_t relay;  /* the relay of the call; of a call on a tablet, the tablet's: of withdraw and find, the one before the call */
@@ -61,31 +74,31 @@ uint32_t wairepomuro_check(uint32_t scheme, const uint32_t *relays, size_t relay
 /* Puts in a relay with this limit. */
 uint32_t wairepomuro_add(uint32_t scheme, uint32_t *relays, size_t relays_length, uint32_t *tablets, size_t tablets_length,
                          uint32_t *moves, size_t moves_length, uint32_t *tally, size_t tally_length,
-                         uint32_t relay, uint32_t limit, wairepomuro_reply *reply);
+                         wairepomuro_relay_number relay, uint32_t limit, wairepomuro_reply *reply);
 
 /* Takes out a relay. */
 uint32_t wairepomuro_remove(uint32_t scheme, uint32_t *relays, size_t relays_length, uint32_t *tablets, size_t tablets_length,
                             uint32_t *moves, size_t moves_length, uint32_t *tally, size_t tally_length,
-                            uint32_t relay, wairepomuro_reply *reply);
+                            wairepomuro_relay_number relay, wairepomuro_reply *reply);
 
 /* Changes the limit of a relay. */
 uint32_t wairepomuro_set(uint32_t scheme, uint32_t *relays, size_t relays_length, uint32_t *tablets, size_t tablets_length,
                          uint32_t *moves, size_t moves_length, uint32_t *tally, size_t tally_length,
-                         uint32_t relay, uint32_t limit, wairepomuro_reply *reply);
+                         wairepomuro_relay_number relay, uint32_t limit, wairepomuro_reply *reply);
 
 /* Puts in a tablet. */
 uint32_t wairepomuro_enrol(uint32_t scheme, const uint32_t *relays, size_t relays_length, uint32_t *tablets, size_t tablets_length,
                            uint32_t *moves, size_t moves_length, uint32_t *tally, size_t tally_length,
-                           uint32_t tablet, wairepomuro_reply *reply);
+                           wairepomuro_tablet_number tablet, wairepomuro_reply *reply);
 
 /* Takes out a tablet. */
 uint32_t wairepomuro_withdraw(uint32_t scheme, const uint32_t *relays, size_t relays_length, uint32_t *tablets, size_t tablets_length,
                               uint32_t *moves, size_t moves_length, uint32_t *tally, size_t tally_length,
-                              uint32_t tablet, wairepomuro_reply *reply);
+                              wairepomuro_tablet_number tablet, wairepomuro_reply *reply);
 
 /* Finds a tablet. Nothing is written but the reply and, where the call is refused, the tally. */
 uint32_t wairepomuro_find(uint32_t scheme, const uint32_t *relays, size_t relays_length, const uint32_t *tablets, size_t tablets_length,
-                          uint32_t *tally, size_t tally_length, uint32_t tablet, wairepomuro_reply *reply);
+                          uint32_t *tally, size_t tally_length, wairepomuro_tablet_number tablet, wairepomuro_reply *reply);
 
 /* Writes the sheet of these tables to the start of the lent slice; what lies behind it stays. Answers 0, 1, 2, or 12 where the slice is shorter
  * than the tablets; then nothing is written. */
@@ -96,7 +109,7 @@ uint32_t wairepomuro_sheet(uint32_t scheme, const uint32_t *relays, size_t relay
  * numbers, behind those of all relays with lower numbers. Where the scheme is unknown, the tables are not right, the sheet's first numbers are not
  * these tables' sheet, or the relay is not there, both are 0. Always *start plus the answer is at most sheet_length. */
 size_t wairepomuro_stretch(uint32_t scheme, const uint32_t *relays, size_t relays_length, const uint32_t *tablets, size_t tablets_length,
-                           const uint32_t *sheet, size_t sheet_length, uint32_t relay, size_t *start);
+                           const uint32_t *sheet, size_t sheet_length, wairepomuro_relay_number relay, size_t *start);
 
 /* Works out the limit that every relay has with balance p/q: p * tablets / (q * relays), rounded up, or 4,096 where that is more. Answers 0; 3
  * where p, q or relays is 0; 4 where p or q is above 1,000, p below q, tablets above 4,096 or relays above 256. *limit is then 0. */
