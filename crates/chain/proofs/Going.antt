@@ -18,9 +18,18 @@ use Rattle.order.specs.Keys.{slotRelay}
 use Rattle.meaning.specs.Meaning.{places, tabletsIn}
 use Rattle.slots.specs.Slots.{slotAt, stepsTo, roundNumber, roundLimit, round}
 use Rattle.slots.proofs.Steps.{slot-inside, steps-inside, slot-steps, steps-slot, slot-next}
-use Rattle.chain.specs.Chain.{nameAt, chainOf, nextSlot, Turned, From, Going, Chained}
+use Rattle.chain.specs.Chain.{nameAt, chainOf, nextSlot, From, Chained}
 use Rattle.chain.specs.Visit.{givesWay, Visited}
-use Rattle.chain.proofs.Keeping.{numberBefore, last-within, greatest-last, keeps-start, keeps-end, keeps-visited}
+use Rattle.chain.proofs.Keeping.{Turned, numberBefore, last-within, greatest-last, keeps-start, keeps-end, keeps-visited}
+
+-- d steps on, at slot k, c sat down
+pub record Going (rs ts : List ℕ) (n m : ℕ) (keys : List ℕ) (h stop x : ℕ) (place seat : List ℕ) (c d k : ℕ) : Type 0 where
+  pub short : d ≤ stepsTo n h stop
+  pub at : k ≡ slotAt n h d
+  pub few : c ≤ d
+  pub place-size : length place ≡ mostRelays
+  pub seat-size : length seat ≡ mostRelays
+  pub keeps : Turned x rs ts place seat n m c (turn (tabletsIn ts m) (newcomer x) (round rs keys n h d))
 
 module _ {p : Positions} {rs ts : List ℕ} {n m : ℕ} {keys last : List ℕ} {h stop x : ℕ} (f : From p rs ts n m keys last h stop x) where
   in-ring : h ≤ n

@@ -29,8 +29,16 @@ use Rattle.meaning.proofs.Places.{ascending-apart, ascending-fewer}
 use Rattle.meaning.proofs.More.{greatest-more}
 use Rattle.meaning.proofs.Placed.{Found}
 use Rattle.meaning.proofs.Right.{Rises, right-found}
-use Rattle.chain.specs.Chain.{nameAt, fromAt, linkAt, chainOf, Turned}
+use Rattle.chain.specs.Chain.{nameAt, fromAt, linkAt, chainOf}
 use Rattle.chain.specs.Visit.{givesWay, Visited}
+
+-- the state of a turn: c sat down, and the next walks
+pub record Turned (x : ℕ) (rs ts place seat : List ℕ) (n m c : ℕ) (s : Turn) : Type 0 where
+  pub walker : s .walker ≡ nameAt x ts place c
+  pub from : s .from ≡ fromAt rs seat c
+  pub chain : s .chain ≡ chainOf x rs ts place seat c
+  pub places : (i : ℕ) → 0 < i → i ≤ c → getD place i 0 < m
+  pub relays : (i : ℕ) → i < c → getD seat i 0 < n
 
 -- ---- one visit
 

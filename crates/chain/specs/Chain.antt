@@ -5,18 +5,18 @@ use mathlib.Core.List.{List, [], _∷_, _++_}
 use mathlib.Core.Path.{_≡_}
 use Prim.Native.Nat.{ℕ, zero, suc, _+_, _≤_, _<_}
 use lib.Dec.{eqb}
-use lib.ListN.{length, getD}
+use lib.ListN.{getD}
 use Rattle.ring.specs.Scheme.{Positions}
 use Rattle.rule.specs.declared.Move.{Move}
-use Rattle.rule.specs.Sweeps.{Turn, seats, turn, newcomer}
-use Rattle.lent.specs.Table.{mostRelays, relayNumber, tabletNumber}
+use Rattle.rule.specs.Sweeps.{seats, turn, newcomer}
+use Rattle.lent.specs.Table.{relayNumber, tabletNumber}
 use Rattle.lent.specs.Placing.{relayPositions}
 use Rattle.order.specs.Keys.{slotRelay, Ordered}
 use Rattle.order.specs.Home.{keyAt, Home}
 use Rattle.survey.specs.Seats.{lastAfter}
 use Rattle.meaning.specs.Meaning.{tabletsIn}
 use Rattle.meaning.proofs.Right.{Rises}
-use Rattle.slots.specs.Slots.{slotAt, stepsTo, round}
+use Rattle.slots.specs.Slots.{stepsTo, round}
 
 -- the number of the c-th who sits down
 unfoldable pub nameAt : ℕ → List ℕ → List ℕ → ℕ → ℕ
@@ -37,14 +37,6 @@ unfoldable pub chainOf : ℕ → List ℕ → List ℕ → List ℕ → List ℕ
 chainOf x rs ts place seat zero = []
 chainOf x rs ts place seat (suc c) = chainOf x rs ts place seat c ++ (linkAt x rs ts place seat c ∷ [])
 
--- the state of a turn: c sat down, and the next walks
-pub record Turned (x : ℕ) (rs ts place seat : List ℕ) (n m c : ℕ) (s : Turn) : Type 0 where
-  pub walker : s .walker ≡ nameAt x ts place c
-  pub from : s .from ≡ fromAt rs seat c
-  pub chain : s .chain ≡ chainOf x rs ts place seat c
-  pub places : (i : ℕ) → 0 < i → i ≤ c → getD place i 0 < m
-  pub relays : (i : ℕ) → i < c → getD seat i 0 < n
-
 -- the next slot of n
 unfoldable pub nextSlot : ℕ → ℕ → ℕ
 nextSlot n k = cond (eqb (k + 1) n) 0 (k + 1)
@@ -56,15 +48,6 @@ pub record From (p : Positions) (rs ts : List ℕ) (n m : ℕ) (keys last : List
   pub greatest : last ≡ lastAfter p rs ts n m
   pub home : Home keys n (keyAt (p .tabletAt x)) h
   pub inside : stop < n
-
--- d steps on, at slot k, c sat down
-pub record Going (rs ts : List ℕ) (n m : ℕ) (keys : List ℕ) (h stop x : ℕ) (place seat : List ℕ) (c d k : ℕ) : Type 0 where
-  pub short : d ≤ stepsTo n h stop
-  pub at : k ≡ slotAt n h d
-  pub few : c ≤ d
-  pub place-size : length place ≡ mostRelays
-  pub seat-size : length seat ≡ mostRelays
-  pub keeps : Turned x rs ts place seat n m c (turn (tabletsIn ts m) (newcomer x) (round rs keys n h d))
 
 -- the newcomer first, then all who gave way: c of them sat down after the steps to the first slot with room
 pub record Chained (rs ts : List ℕ) (n m : ℕ) (keys : List ℕ) (h stop x c d : ℕ) (place seat : List ℕ) : Type 0 where

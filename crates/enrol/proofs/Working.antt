@@ -38,7 +38,8 @@ use Rattle.order.specs.Home.{keyAt, Home}
 use Rattle.survey.specs.declared.Survey.{Survey}
 use Rattle.survey.specs.Row.{slotRoom, Leads, Row}
 use Rattle.survey.proofs.Leading.{leads-at}
-use Rattle.meaning.specs.Meaning.{places, relaysIn, tabletsIn, ringOf, lentOf, roomed}
+use Rattle.meaning.specs.Meaning.{places, relaysIn, tabletsIn, ringOf, lentOf}
+use Rattle.meaning.proofs.Choice.{roomed}
 use Rattle.meaning.proofs.Places.{length-places}
 use Rattle.meaning.proofs.More.{total-more}
 use Rattle.meaning.proofs.Run.{run-left}

@@ -21,10 +21,14 @@ use Rattle.rule.proofs.Right.{held-small}
 use Rattle.lent.specs.Table.{mostRelays, relayNumber}
 use Rattle.lent.specs.Placing.{nobody, relayPositions, keyFrom, openKey, leastKey, firstWithRoom}
 use Rattle.lent.proofs.Nearest.{least-low, key-open, key-shut, first-open}
-use Rattle.meaning.specs.Meaning.{roomed}
+use Rattle.meaning.specs.Meaning.{places}
 use Rattle.meaning.specs.Ascending.{Ascending}
 use Rattle.meaning.proofs.Places.{At, table-places, held-places, held-at}
 use Rattle.meaning.proofs.Keys.{placeKey, key-order}
+
+-- the relays of the first n places, with what room an array gives them
+unfoldable pub roomed : List ℕ → List ℕ → ℕ → List Entry
+roomed rs room n = places (relayNumber rs) (λ i. getD room i 0) n
 
 -- ---- the least key
 

@@ -24,12 +24,12 @@ use Rattle.lent.specs.Table.{mostRelays, relayNumber, relayLimit, tabletNumber,
 use Rattle.lent.specs.Placing.{relayLimits, roomAfter, relayFor}
 use Rattle.lent.proofs.Loops.{array-at}
 use Rattle.lent.proofs.Room.{less-here, less-other}
-use Rattle.meaning.specs.Meaning.{places, relaysIn, tabletsIn, roomed}
+use Rattle.meaning.specs.Meaning.{places, relaysIn, tabletsIn}
 use Rattle.meaning.specs.Ascending.{Ascending}
 use Rattle.meaning.proofs.Places.{places-ext, held-places}
 use Rattle.meaning.proofs.More.{numbers-append}
 use Rattle.meaning.proofs.Edits.{less-places}
-use Rattle.meaning.proofs.Choice.{First, first-chosen}
+use Rattle.meaning.proofs.Choice.{roomed, First, first-chosen}
 
 -- the first k tablets, each with the relay that the loops find for it
 abbrev pub seated : Positions → List ℕ → List ℕ → ℕ → ℕ → List Entry

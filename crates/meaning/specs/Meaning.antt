@@ -46,7 +46,3 @@ lentOf scheme rs ts ms =
 -- every number of a lent slice is a 32-bit number
 pub record Words (l : List ℕ) : Type 0 where
   pub fit : (i : ℕ) → getD l i 0 < 2 ^ 32
-
--- the relays of the first n places, with what room an array gives them
-unfoldable pub roomed : List ℕ → List ℕ → ℕ → List Entry
-roomed rs room n = places (relayNumber rs) (λ i. getD room i 0) n

@@ -93,20 +93,20 @@ pub fn clockwise(one: Position, other: Position) -> u32
 
 // ---- small numbers as indices
 
-pub fn from_u8(x: u8) -> usize
-    ensures { λ r. ⌜ (r ≡ x) × (r < 2 ^ 8) ⌝ }
+pub fn from_u8(byte: u8) -> usize
+    ensures { λ r. ⌜ (r ≡ byte) × (r < 2 ^ 8) ⌝ }
 {
-    x as usize
+    byte as usize
 }
 
-pub fn from_u16(x: u16) -> usize
-    ensures { λ r. ⌜ (r ≡ x) × (r < 2 ^ 16) ⌝ }
+pub fn from_u16(half: u16) -> usize
+    ensures { λ r. ⌜ (r ≡ half) × (r < 2 ^ 16) ⌝ }
 {
-    x as usize
+    half as usize
 }
 
-pub fn from_u32(x: u32) -> usize
-    ensures { λ r. ⌜ (r ≡ x) × (r < 2 ^ 32) ⌝ }
+pub fn from_u32(word: u32) -> usize
+    ensures { λ r. ⌜ (r ≡ word) × (r < 2 ^ 32) ⌝ }
 {
-    x as usize
+    word as usize
 }

@@ -5,8 +5,7 @@ use mathlib.Core.Path.{refl}
 use Prim.Native.Nat.{_-_}
 use native.Mathlib.Omega.{arith}
 use Rattle.slots.specs.Slots.{stepsTo}
-use Rattle.chain.specs.Chain.{Going}
-use Rattle.chain.proofs.Going.{going-start, slot-small, more-steps, room-for-one, last-small, place-there, going-more, going-end, steps-few, few-relays}
+use Rattle.chain.proofs.Going.{Going, going-start, slot-small, more-steps, room-for-one, last-small, place-there, going-more, going-end, steps-few, few-relays}
 use borrow.Author.Needs.{needs}
 use Rattle.chain.proofs.turn.Statement.{statement}
 use Rattle.chain.proofs.turn.Tie as tie
