@@ -33,7 +33,7 @@ add-count : tie.Need-add-count Inv-loop μ-loop
 add-count c = omega (arith, swept-few _ _ _ _ (c .before .loop .inv))
 
 next-mover-requires-2 : tie.Need-next-mover-requires-2 Inv-loop μ-loop
-next-mover-requires-2 c κs = (c .before .before .before .pre .0, c .loop-test .taken)
+next-mover-requires-2 c κs = (c .before .before .before .pre .0, omega (arith, c .loop-test .taken, c .before .before .before .pre .1))
 
 loop-less : tie.Need-loop-less Inv-loop μ-loop
 loop-less c = omega (arith, c .before .loop-test .taken, c .next-mover2 .ensures .low)
