@@ -8,7 +8,7 @@ use mathlib.Core.Path.{_≡_, refl, sym, ap, _∙_}
 use mathlib.Core.List.{List, [], _∷_}
 use mathlib.Core.Logic.{inl, inr}
 use mathlib.Core.Option.{some}
-use Prim.Native.Nat.{ℕ, _+_, _≤_, _<_}
+use Prim.Native.Nat.{ℕ, _≤_, _<_}
 use native.Mathlib.Omega.{arith}
 use borrow.Author.Tests.{ltb-false, eq-eqb}
 use lib.ListN.{length}
@@ -17,12 +17,11 @@ use Rattle.ring.specs.declared.TabletNumber.{TabletNumber}
 use Rattle.ring.proofs.Tests.{split}
 use Rattle.rule.specs.declared.Move.{Move}
 use Rattle.rule.specs.declared.Call.the-variants.{Enrol, Withdraw, Find}
-use Rattle.rule.specs.Entry.{Entry, numbers, has, besideOf, insert, delete, total, count, load, loads, first, upTo}
+use Rattle.rule.specs.Entry.{Entry, numbers, has, besideOf, insert, delete, total, count, load, first, upTo}
 use Rattle.rule.specs.Order.{order}
 use Rattle.rule.specs.Rule.{Ring, full, hasRoom, seat}
 use Rattle.rule.specs.Calls.{edited, after, moved, moves, fullAhead, passed, relayOf}
 use Rattle.rule.specs.Sweeps.{seated, seats, turn, newcomer, holes}
-use Rattle.rule.specs.Rooms.{rooms}
 use Rattle.rule.specs.Stability.{Rising, In}
 use Rattle.rule.proofs.Counts.{insert-sits, length-insert, length-delete}
 use Rattle.rule.proofs.Sets.{rising-insert}
@@ -35,12 +34,6 @@ use Rattle.rule.proofs.Holing.{holes-placement}
 use Rattle.rule.proofs.Listing.{Chain, numbers-seated, seated-other, turn-chain, chain-seated, turn-moves, holes-moves}
 use Rattle.rule.proofs.Moves.{moved-none}
 use Rattle.rule.proofs.Accepted.{after-is}
-
--- what is left and what is taken make up the limits
-total-rooms : (rs ts : List Entry) → total rs ≤ total (rooms rs ts) + loads rs ts
-unfolding total rooms loads
-total-rooms [] ts = omega arith
-total-rooms (e ∷ rs) ts = omega (arith, total-rooms rs ts)
 
 -- ---- an enrolment
 

@@ -53,9 +53,6 @@ module _ {s : ℕ} {rs ts : List ℕ} {n m : ℕ} {v : Survey} (b : Start s rs t
   rises = start-rises b
 
   module _ (j : ℕ) (h : j < m) where
-    abbrev homeOf : ℕ
-    homeOf = getD (v .home) j 0
-
     abbrev slotOf : ℕ
     slotOf = getD (v .slot) j 0
 
