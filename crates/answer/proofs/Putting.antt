@@ -32,8 +32,8 @@ puts-one p q = (p .places ∙ sym (q .places), p .behind ∙ sym (q .behind))
 pub puts-nothing : (l : List ℕ) {at : ℕ} → at ≤ length l → Puts l at [] l at
 puts-nothing l h = record { places = refl; behind = omega arith }
 
-pub puts-none : (l : List ℕ) {at : ℕ} (b : ℕ) → at ≤ length l → length l ≤ at → Puts l at (b ∷ []) l at
-puts-none l {at} b h k = record { places = sym (set-out l at b k); behind = omega arith }
+pub puts-none : (l : List ℕ) (at b : ℕ) → length l ≤ at → Puts l at (b ∷ []) l (length l)
+puts-none l at b h = record { places = sym (set-out l at b h); behind = omega arith }
 
 pub puts-length : {l : List ℕ} {at : ℕ} {s m : List ℕ} {n : ℕ} → Puts l at s m n → length m ≡ length l
 puts-length {l} {at} {s} p = ap length (p .places) ∙ length-sets l at s

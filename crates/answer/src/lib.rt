@@ -6,16 +6,15 @@ ghost use Prim.Native.Nat.{_+_, _*_, _≤_, _<_, min};
 ghost use lib.ListN.{length};
 ghost use Rattle.answer.specs.Text.{Puts, numberThen, moveTextAt, movesText, answerText};
 
-// One byte.
-fn put(out: &mut [u8], at: usize, b: u8) -> usize
-    requires { ⌜ at ≤ length (now out) ⌝ }
+// One byte, where there is room.
+pub fn put(out: &mut [u8], at: usize, b: u8) -> usize
     ensures { λ next. ⌜ Puts (now (out .entry)) at (b ∷ []) (now (out .exit)) next ⌝ }
 {
     if at < out.len() {
         out[at] = b;
         return at + 1;
     }
-    at
+    out.len()
 }
 
 fn put_bytes(out: &mut [u8], at: usize, bytes: &[u8]) -> usize

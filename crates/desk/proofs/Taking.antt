@@ -1,24 +1,19 @@
 -- From what was answered, and from what was kept, to the promise of a byte.
---   puts-full                a byte that has no room
 --   take-part                a part of a slice from its start on
 --   takes-end, takes-kept    a newline, and any other byte
 -- Assumes nothing.
 use mathlib.Core.List.{List, [], _∷_}
-use mathlib.Core.Path.{_≡_, refl, sym, ap}
-use Prim.Native.Nat.{ℕ, _-_, _≤_}
+use mathlib.Core.Path.{_≡_, refl, ap}
+use Prim.Native.Nat.{ℕ, _-_}
 use native.Mathlib.Omega.{arith}
 use borrow.Author.Tests.{eq-eqb, ne-eqb}
-use lib.ListN.{length, take}
-use lib.Seq.{set-out}
+use lib.ListN.{take}
 use Rattle.answer.specs.Text.{Puts}
 use Rattle.answer.proofs.Putting.{puts-nothing}
 use Rattle.desk.specs.declared.Standing.{Standing}
 use Rattle.desk.specs.Lines.{answered, Answers}
 use Rattle.desk.specs.Bytes.{keeping, taken, lineThen, Takes}
 use Rattle.desk.proofs.Answering.{answers-said}
-
-pub puts-full : (l : List ℕ) (at b : ℕ) → length l ≤ at → Puts l at (b ∷ []) l (length l)
-puts-full l at b h = record { places = sym (set-out l at b h); behind = omega arith }
 
 pub take-part : (k : ℕ) (l : List ℕ) → take (k - 0) l ≡ take k l
 take-part k l = let e : k - 0 ≡ k = omega arith in ap (λ n. take n l) e

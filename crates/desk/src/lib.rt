@@ -1,10 +1,8 @@
 // What a line of input does, and what a byte of it does (document 01, "A drill to prove"; docs/DECISIONS.md, reading 9), with nothing read or written:
 // what a line means is `line`'s, what a call does `calls`'s, how an answer reads `answer`'s.
-ghost use mathlib.Core.List.{[], _∷_};
 ghost use mathlib.Core.Path.{_≡_};
 ghost use lib.ListN.{take};
 ghost use Rattle.line.specs.Line.{meaningOf, schemeOf};
-ghost use Rattle.answer.specs.Text.{Puts};
 ghost use Rattle.desk.specs.Lines.{isOver, Says, Answers, other, first, under, answered};
 ghost use Rattle.desk.specs.Bytes.{Takes};
 
@@ -124,17 +122,6 @@ fn kept_part(line: &[u8], kept: usize) -> &[u8]
     &line[0..kept]
 }
 
-// One byte more of it, where there is room.
-fn keep(line: &mut [u8], kept: usize, b: u8) -> usize
-    ensures { λ r. ⌜ Puts (now (line .entry)) kept (b ∷ []) (now (line .exit)) r ⌝ }
-{
-    if kept < line.len() {
-        line[kept] = b;
-        return kept + 1;
-    }
-    line.len()
-}
-
 // What a byte of the input does: a newline ends the line, and any other is kept.
 pub fn take_byte(
     relays: &mut [u32],
@@ -152,7 +139,7 @@ pub fn take_byte(
     if b == b'\n' {
         return answer_line(relays, tablets, moves, answer, stage, kept_part(line, kept));
     }
-    let more = keep(line, kept, b);
+    let more = answer::put(line, kept, b);
     Standing {
         stage: stage,
         kept: more,

@@ -17,7 +17,7 @@ returns : tie.Need-returns
 returns c = search needs
 
 returns-2 : tie.Need-returns-2
-returns-2 c = puts-none _ _ (c .before .pre) (c .if1 .left)
+returns-2 c = puts-none _ _ _ (c .if1 .left)
 
 pub put-spec : {M : Type 1} → statement M
 put-spec = tie.close (tie.spec slice-write-out add-result same-length returns returns-2)

@@ -8,7 +8,7 @@ use borrow.Author.Needs.{needs}
 use lib.ListN.{length, take, getD}
 use lib.Seq.{take-suc, take-all}
 use Rattle.answer.specs.Text.{Puts}
-use Rattle.answer.proofs.Putting.{puts-nothing, puts-append, puts-within, puts-length}
+use Rattle.answer.proofs.Putting.{puts-nothing, puts-append, puts-length}
 use Rattle.answer.proofs.put_bytes.Statement.{statement}
 use Rattle.answer.proofs.put_bytes.Tie as tie
 
@@ -25,7 +25,7 @@ shared-slice-read-put : tie.Need-shared-slice-read-put Inv-loop μ-loop
 shared-slice-read-put c = search needs
 
 put-requires : tie.Need-put-requires Inv-loop μ-loop
-put-requires c κs = puts-within (c .before .before .before .loop .inv .1)
+put-requires c κs = search needs
 
 add-i : tie.Need-add-i Inv-loop μ-loop
 add-i c = search needs
