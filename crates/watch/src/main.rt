@@ -5,6 +5,7 @@ ghost use mathlib.Core.Path.{_≡_};
 ghost use Prim.Native.Nat.{_≤_, _<_, min};
 ghost use lib.ListN.{length, take};
 ghost use lib.Seq.{sets};
+ghost use Rattle.watch.specs.Reading.{Brings};
 
 const STDIN: i32 = 0;
 
@@ -23,7 +24,7 @@ const KEPT: usize = 24;
 // The longest answer: 44 bytes, and 35 for each of 4,096 moves (`takes-whole` in `desk`).
 const ANSWER: usize = 143404;
 
-// What a read brought: how many bytes, and whether the input has ended.
+// What a read brought: how many bytes are to be taken, and whether no more will come.
 struct Brought {
     count: usize,
     ended: bool,
@@ -41,24 +42,38 @@ fn last_newline(chunk: &mut [u8], kept: usize) -> usize
     1
 }
 
+// What a read brought that answered `got`. Where it failed, the line that it cut off is not made.
+fn after_read(chunk: &mut [u8], kept: usize, got: isize) -> Brought
+    requires { ⌜ 0 < length (now chunk) ⌝ }
+    ensures { λ r. ⌜ Brings got kept (now (chunk .entry)) (r .count) (r .ended) (now (chunk .exit)) ⌝ }
+{
+    let n = io::count(got, chunk);
+    if got > 0 {
+        return Brought {
+            count: n,
+            ended: false,
+        };
+    }
+    if got < 0 {
+        return Brought {
+            count: 0,
+            ended: true,
+        };
+    }
+    let last = last_newline(chunk, kept);
+    Brought {
+        count: last,
+        ended: true,
+    }
+}
+
 // Reads once.
 fn bring(chunk: &mut [u8], kept: usize) -> Brought
     requires { ⌜ 0 < length (now chunk) ⌝ }
     ensures { λ r. ⌜ r .count ≤ length (now (chunk .exit)) ⌝ }
 {
     let got = libc::read(STDIN, chunk);
-    let n = io::count(got, chunk);
-    if n == 0 {
-        let last = last_newline(chunk, kept);
-        return Brought {
-            count: last,
-            ended: true,
-        };
-    }
-    Brought {
-        count: n,
-        ended: false,
-    }
+    after_read(chunk, kept, got)
 }
 
 // Writes the answer that is due. Where that fails nobody reads on, and the run is over.
