@@ -1,10 +1,8 @@
 pub mod Lists
 pub mod Indices
-pub mod Starting
 pub mod Filling
 pub mod Pointing
 pub mod Laying
-pub mod Housing
 pub mod Sheeting
 pub mod Binding
 pub mod Examples

@@ -16,9 +16,9 @@ use Rattle.rule.specs.Sheet.{sheetFrom, begins}
 use Rattle.lent.specs.Table.{tabletNumber}
 use Rattle.lent.specs.Placing.{array}
 use Rattle.meaning.specs.Meaning.{relaysIn, tabletsIn}
-use Rattle.sheet.specs.Laying.{startAt, placeOf, Housed}
+use Rattle.loads.specs.Loads.{startAt, placeOf, Housed}
 use Rattle.sheet.proofs.Lists.{sheet-length}
-use Rattle.sheet.proofs.Indices.{startOf, heldBy}
+use Rattle.loads.proofs.Starting.{startOf, heldBy}
 use Rattle.sheet.proofs.Filling.{Fills, fills-none, fills-more, fills-all}
 use Rattle.sheet.proofs.Pointing.{Points, points-start, points-at, points-inside, points-more}
 use Rattle.stretch.proofs.Begins.{begins-take, begins-apart, begins-short}

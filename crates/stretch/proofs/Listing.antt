@@ -19,8 +19,9 @@ use Rattle.lent.specs.Table.{relayNumber, relayLimit, tabletNumber, tabletRelay
 use Rattle.lent.proofs.Loops.{eq-or-ne}
 use Rattle.meaning.specs.Meaning.{places, relaysIn, tabletsIn}
 use Rattle.spot.specs.Spot.{Spot}
-use Rattle.sheet.proofs.Lists.{sheet-length, sheet-more, load-own, load-least, tablets-at}
-use Rattle.sheet.proofs.Indices.{startOf, heldBy, start-next, start-least}
+use Rattle.loads.proofs.Counts.{load-own, load-least}
+use Rattle.sheet.proofs.Lists.{sheet-length, sheet-more, tablets-at}
+use Rattle.loads.proofs.Starting.{startOf, heldBy, start-next, start-least}
 
 -- ---- each tablet at its index
 

@@ -21,10 +21,9 @@ use Rattle.meaning.proofs.Places.{has-at}
 use Rattle.look.specs.Start.{Start}
 use Rattle.look.proofs.Refusing.{start-rises, start-ring}
 use Rattle.spot.specs.Spot.{Spot}
-use Rattle.sheet.specs.Laying.{startAt, Roomed}
-use Rattle.sheet.proofs.Indices.{startOf, heldBy, start-next, start-least}
-use Rattle.sheet.proofs.Starting.{roomed-fewer, housed-roomed, start-is}
-use Rattle.sheet.proofs.Housing.{start-housed}
+use Rattle.loads.specs.Loads.{startAt, Roomed}
+use Rattle.loads.proofs.Starting.{startOf, heldBy, start-next, start-least, roomed-fewer, housed-roomed, start-is}
+use Rattle.loads.proofs.Housing.{start-housed}
 use Rattle.stretch.proofs.Listing.{keep-below}
 
 module _ {s : ℕ} {rs ts : List ℕ} {n m : ℕ} {v : Survey} (b : Start s rs ts n m v) {r : ℕ} {there : Bool} (et : there ≡ has (relaysIn rs n) r) (ht : not there ≡ false)

@@ -27,9 +27,9 @@ use Rattle.look.specs.declared.Looked.{Looked}
 use Rattle.look.specs.Start.{checked, Start, Looks}
 use Rattle.look.proofs.Refusing.{start-ring, tables-right}
 use Rattle.spot.specs.Spot.{Spot}
-use Rattle.sheet.specs.Laying.{startAt}
+use Rattle.loads.specs.Loads.{startAt}
 use Rattle.sheet.proofs.Lists.{sheet-length}
-use Rattle.sheet.proofs.Housing.{start-housed}
+use Rattle.loads.proofs.Housing.{start-housed}
 use Rattle.stretch.specs.Promise.{stretchOf}
 use Rattle.stretch.specs.Bounds.{Bounds}
 use Rattle.stretch.proofs.Begins.{begins-long}

@@ -4,7 +4,7 @@ use borrow.Author.Needs.{needs}
 use Rattle.look.proofs.Checked.{words-of}
 use Rattle.look.proofs.Ways.{look-start}
 use Rattle.look.proofs.Refusing.{start-rises}
-use Rattle.sheet.proofs.Housing.{start-housed}
+use Rattle.loads.proofs.Housing.{start-housed}
 use Rattle.stretch.proofs.Standing.{at-roomed}
 use Rattle.stretch.proofs.Stretching.{look-bounds, absent-bounds, other-bounds, found-bounds}
 use Rattle.stretch.proofs.bounds.Statement.{statement}

@@ -4,7 +4,7 @@ use mathlib.Core.Path.{refl}
 use Prim.Native.Nat.{_-_, _≤_, _<_}
 use native.Mathlib.Omega.{arith}
 use lib.ListN.{getD}
-use Rattle.sheet.proofs.Starting.{housed-roomed}
+use Rattle.loads.proofs.Starting.{housed-roomed}
 use Rattle.sheet.proofs.Pointing.{points-place, points-inside}
 use Rattle.stretch.proofs.Comparing.{Lists, lists-short, lists-start, lists-more, lists-not, lists-end}
 use Rattle.stretch.proofs.lists.Statement.{statement}

@@ -17,7 +17,7 @@ use Rattle.meaning.proofs.Places.{length-places, held-places}
 use Rattle.meaning.proofs.Right.{Rises, right-found, right-room}
 use Rattle.look.specs.Start.{Start}
 use Rattle.look.proofs.Refusing.{start-rises, start-ring}
-use Rattle.sheet.specs.Laying.{placeOf, Housed}
+use Rattle.loads.specs.Loads.{placeOf, Housed}
 
 module _ {s : ℕ} {rs ts : List ℕ} {n m : ℕ} {v : Survey} (b : Start s rs ts n m v) where
   rises : Rises (positions s) rs ts n m

@@ -1,0 +1,3 @@
+pub mod Counts
+pub mod Starting
+pub mod Housing
