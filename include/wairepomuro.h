@@ -117,8 +117,8 @@ uint32_t wairepomuro_balance(uint32_t p, uint32_t q, uint32_t tablets, uint32_t 
 
 /* Reads a roster of any bytes into the lent tables and zeroes every place left over. It is taken only where its places are the rule's under the
  * scheme that its own trailer names; that scheme is written to *scheme. Answers 0, or in this order: 10 where the trailer and the length do not
- * agree, 1 for a scheme that is not known, 12 where a lent table has an odd length, too few places or too many, 11 where the entries are not
- * right. Then the tables stay as they were, and *scheme is 0. */
+ * agree or there are more than 256 relays or 4,096 tablets, 1 for a scheme that is not known, 12 where a lent table has an odd length, too few
+ * places or too many, 11 where the entries are not right. Then the tables stay as they were, and *scheme is 0. */
 uint32_t wairepomuro_read(const uint8_t *bytes, size_t bytes_length, uint32_t *relays, size_t relays_length,
                           uint32_t *tablets, size_t tablets_length, uint32_t *scheme);
 
