@@ -18,30 +18,32 @@ use Rattle.lent.specs.Placing.{placed, right}
 use Rattle.survey.specs.declared.Survey.{Survey}
 use Rattle.survey.specs.Seats.{Surveyed}
 use Rattle.survey.specs.Tables.{ShapesOf}
-use Rattle.meaning.specs.Meaning.{Words}
+use Rattle.meaning.specs.Meaning.{tablesRight, tablesBars, tablesRefusal, Words}
+use Rattle.meaning.proofs.Right.{right-meaning}
 use Rattle.look.specs.declared.First.{First}
-use Rattle.look.specs.Start.{checked, verdict, NotBarred, FirstLook, Looks}
+use Rattle.look.specs.Start.{verdict, NotBarred, FirstLook, Looks}
 
 -- every number that was read is a word
 pub words-of : (l : List ℕ) → ((i : ℕ) → Fits w32 (getD l i 0)) → Words l
 words-of l f = record { fit = λ i. f i .fits }
 
 module _ (s : ℕ) (rs ts : List ℕ) where
-  pub unknown-refused : {k : Bool} → k ≡ known s → not k ≡ true → checked s rs ts ≡ SchemeUnknown
-  unfolding checked firstBar
+  pub unknown-refused : {k : Bool} → k ≡ known s → not k ≡ true → tablesRefusal s rs ts ≡ SchemeUnknown
+  unfolding tablesRefusal tablesBars firstBar
   unknown-refused e h = rw (sym e ∙ not-true _ h)
 
-  pub wrong-refused : {k : Bool} → k ≡ known s → not k ≡ false → right (positions s) rs ts ≡ false → checked s rs ts ≡ TablesNotRight
-  unfolding checked firstBar
-  wrong-refused {k} e h w = rw (sym e ∙ not-false k h, w)
+  module _ (wr : Words rs) (wt : Words ts) {k : Bool} (e : k ≡ known s) (h : not k ≡ false) where
+    pub wrong-refused : right (positions s) rs ts ≡ false → tablesRefusal s rs ts ≡ TablesNotRight
+    unfolding tablesRefusal tablesBars firstBar
+    wrong-refused w = rw (sym e ∙ not-false k h, ← right-meaning s rs ts wr wt, w)
 
-  pub right-passed : {k : Bool} → k ≡ known s → not k ≡ false → right (positions s) rs ts ≡ true → checked s rs ts ≡ Done
-  unfolding checked firstBar
-  right-passed {k} e h w = rw (sym e ∙ not-false k h, w)
+    pub right-passed : right (positions s) rs ts ≡ true → tablesRefusal s rs ts ≡ Done
+    unfolding tablesRefusal tablesBars firstBar
+    right-passed w = rw (sym e ∙ not-false k h, ← right-meaning s rs ts wr wt, w)
 
   -- ---- the first look
 
-  pub barred-first : (f : First) (r : Refusal) → isDone r ≡ false → (f .refusal ≡ r) × (f .n ≡ 0) × (f .m ≡ 0) → checked s rs ts ≡ r → FirstLook s rs ts f
+  pub barred-first : (f : First) (r : Refusal) → isDone r ≡ false → (f .refusal ≡ r) × (f .n ≡ 0) × (f .m ≡ 0) → tablesRefusal s rs ts ≡ r → FirstLook s rs ts f
   barred-first f r n e h = record {
     relaysFit = record { few = omega (arith, e .1); there = omega (arith, e .1) };
     tabletsFit = record { few = omega (arith, e .2); there = omega (arith, e .2) };
@@ -98,14 +100,14 @@ module _ (s : ℕ) (rs ts : List ℕ) where
         done : isDone (f .refusal) ≡ true → Looks s rs ts (record { refusal = r; n = f .n; m = f .m; survey = v })
         done y =
             let p : NotBarred s rs ts (f .n) (f .m) = o .passed y .1 in
+            let same : right (positions s) rs ts ≡ v .right = sym (p .test) ∙ sym e in
             split (v .right)
-            (λ t. let ok : right (positions s) rs ts ≡ true = sym (p .test) ∙ sym e ∙ t in
+            (λ t. let ok : tablesRight s rs ts ≡ true = sym (right-meaning s rs ts wr wt) ∙ same ∙ t in
             record {
-              refusal = first-stays t ∙ o .passed y .0 ∙ sym (right-passed (sym (p .known)) refl ok);
+              refusal = first-stays t ∙ o .passed y .0 ∙ sym (right-passed wr wt (sym (p .known)) refl (same ∙ t));
               start = λ _. record { known = p .known; right = ok; relays = p .relays; tablets = p .tablets; surveyed = g t; relayWords = wr; tabletWords = wt };
             })
-            (λ t. let w : right (positions s) rs ts ≡ false = sym (p .test) ∙ sym e ∙ t in
-            record {
-              refusal = second t ∙ sym (wrong-refused (sym (p .known)) refl w);
+            (λ t. record {
+              refusal = second t ∙ sym (wrong-refused wr wt (sym (p .known)) refl (same ∙ t));
               start = λ d. absurd (true-false (sym d ∙ ap isDone (second t) ∙ not-done));
             })

@@ -1,11 +1,11 @@
 -- From what a look found to the outcome of a call: which refusal it meets, one law for each, and what then is promised.
---   tables-right                                                           right tables are right by document 01
---   checked-first                                                          the first two refusals, before any others
+--   start-rises, start-ring                                                what right tables give to a loop, and their entries
+--   tables-first                                                           the first two refusals, before any others
 --   look-refused, number-refused, limits-refused, list-refused, all-passed   the refusal
 --   refused-answers, accepted-answers                                      the promise
 -- Assumes nothing.
-use mathlib.Core.Bool.{Bool, true, false, not, _&&_}
-use mathlib.Core.Path.{_≡_, refl, sym, ap, _∙_}
+use mathlib.Core.Bool.{true, false, not}
+use mathlib.Core.Path.{_≡_, refl, ap, _∙_}
 use mathlib.Core.List.{List, [], _∷_}
 use Prim.Native.Nat.{ℕ, _≤_, _<_}
 use borrow.Author.Tests.{lt-ltb, le-ltb}
@@ -14,23 +14,21 @@ use lib.ListN.{length}
 use Rattle.ring.specs.Scheme.{known, Positions, positions}
 use Rattle.ring.proofs.Tests.{split, true-false}
 use Rattle.rule.specs.declared.Refusal.{Refusal}
-use Rattle.rule.specs.declared.Refusal.the-variants.{Done, SchemeUnknown, TablesNotRight, LimitsTooSmall, MoveListTooShort}
+use Rattle.rule.specs.declared.Refusal.the-variants.{Done, LimitsTooSmall, MoveListTooShort}
 use Rattle.rule.specs.declared.Call.{Call}
 use Rattle.rule.specs.declared.Reply.{Reply}
 use Rattle.rule.specs.Entry.{total}
-use Rattle.rule.specs.Rule as Rule
 use Rattle.rule.specs.Rule.{Ring}
 use Rattle.rule.specs.Refusals.{isDone, refusedBy, Bar, bar, firstBar}
 use Rattle.rule.specs.Calls.{Lent, edited, moves, wrongNumbers, refusal, accepted, declined, outcome}
 use Rattle.rule.specs.Calls as Calls
 use Rattle.rule.proofs.Accepted.{outcome-accepted, outcome-declined}
-use Rattle.lent.specs.Placing.{right}
-use Rattle.meaning.specs.Meaning.{Words, relaysIn, tabletsIn, ringOf, fitTables, lentOf}
-use Rattle.meaning.proofs.Right.{Rises, right-meaning, right-rises}
+use Rattle.meaning.specs.Meaning.{relaysIn, tabletsIn, ringOf, tablesRight, tablesBars, tablesRefusal, lentOf}
+use Rattle.meaning.proofs.Right.{Rises, right-rises}
 use Rattle.survey.specs.declared.Survey.{Survey}
 use Rattle.write.specs.Tables.{relayTable, tabletTable, listed}
 use Rattle.look.specs.Promise.{outcomeOf, written, unchanged, settled, after, Answers}
-use Rattle.look.specs.Start.{checked, Start}
+use Rattle.look.specs.Start.{Start}
 
 -- ---- what is left of an outcome
 
@@ -46,7 +44,7 @@ settled-declined rs ts ms g r h = rw (h, settled)
 
 module _ {s : ℕ} {rs ts : List ℕ} {n m : ℕ} {v : Survey} (b : Start s rs ts n m v) where
   pub start-rises : Rises (positions s) rs ts n m
-  start-rises = rw (b .relays, b .tablets) (right-rises (positions s) rs ts (b .relayWords) (b .tabletWords) (b .right))
+  start-rises = rw (b .relays, b .tablets) (right-rises s rs ts (b .relayWords) (b .tabletWords) (b .right))
 
   -- the ring by how many relays and tablets were found
   abbrev pub found : Ring
@@ -56,18 +54,20 @@ module _ {s : ℕ} {rs ts : List ℕ} {n m : ℕ} {v : Survey} (b : Start s rs t
   unfolding ringOf
   start-ring = rw (b .relays, b .tablets)
 
-  pub tables-right : (fitTables rs ts && Rule.right (positions s) (ringOf rs ts)) ≡ true
-  tables-right = sym (right-meaning (positions s) rs ts (b .relayWords) (b .tabletWords)) ∙ b .right
+  -- neither of the first two applies
+  pub start-past : (later : List Bar) → firstBar (tablesBars s rs ts later) ≡ firstBar later
+  unfolding tablesBars firstBar
+  start-past later = rw (b .known, b .right)
 
 -- ---- refusals
 
 -- one of the first two comes before whatever follows them
-pub checked-first : (s : ℕ) (rs ts : List ℕ) (later : List Bar) (r : Refusal) → checked s rs ts ≡ r → isDone r ≡ false
-    → firstBar (bar (not (known s)) SchemeUnknown ∷ bar (not (right (positions s) rs ts)) TablesNotRight ∷ later) ≡ r
-unfolding checked firstBar isDone
-checked-first s rs ts later r e h =
+pub tables-first : (s : ℕ) (rs ts : List ℕ) (later : List Bar) (r : Refusal) → tablesRefusal s rs ts ≡ r → isDone r ≡ false
+    → firstBar (tablesBars s rs ts later) ≡ r
+unfolding tablesRefusal tablesBars firstBar isDone
+tables-first s rs ts later r e h =
     split (known s)
-    (λ k. split (right (positions s) rs ts)
+    (λ k. split (tablesRight s rs ts)
     (λ t. absurd (true-false (done-false (rw (k, t) at e) h)))
     (λ t. rw (k, t) (rw (k, t) at e)))
     (λ k. rw k (rw k at e))
@@ -92,17 +92,16 @@ module _ (s : ℕ) (rs ts ms : List ℕ) (c : Call) where
       ∷ bar (ltb (total (edited ring c .relays)) (length (edited ring c .tablets))) LimitsTooSmall
       ∷ bar (ltb (lent .movePlaces) (length (moves (positions s) ring c))) MoveListTooShort ∷ []
 
-  first-two : Words rs → Words ts → why ≡ firstBar (bar (not (known s)) SchemeUnknown ∷ bar (not (right (positions s) rs ts)) TablesNotRight ∷ later)
-  unfolding refusal lentOf
-  first-two wr wt = ap (λ (z : Bool). firstBar (bar (not (known s)) SchemeUnknown ∷ bar (not z) TablesNotRight ∷ later)) (sym (right-meaning (positions s) rs ts wr wt))
+  first-two : why ≡ firstBar (tablesBars s rs ts later)
+  unfolding refusal lentOf tablesBars tablesRight
+  first-two = refl
 
-  pub look-refused : Words rs → Words ts → (r : Refusal) → checked s rs ts ≡ r → isDone r ≡ false → why ≡ r
-  look-refused wr wt r e h = first-two wr wt ∙ checked-first s rs ts later r e h
+  pub look-refused : (r : Refusal) → tablesRefusal s rs ts ≡ r → isDone r ≡ false → why ≡ r
+  look-refused r e h = first-two ∙ tables-first s rs ts later r e h
 
   module _ {n m : ℕ} {v : Survey} (b : Start s rs ts n m v) where
     past-two : why ≡ firstBar later
-    unfolding firstBar
-    past-two = first-two (b .relayWords) (b .tabletWords) ∙ rw (b .known, b .right)
+    past-two = first-two ∙ start-past b later
 
     pub number-refused : (r : Refusal) → firstBar (wrongNumbers lent ring c) ≡ r → isDone r ≡ false → why ≡ r
     unfolding firstBar

@@ -3,22 +3,18 @@
 --   relays-few                                                  no more places than may be lent
 --   relays-stay, tablets-stay                                   a table that is not written is the table of its entries
 -- Assumes nothing.
-use mathlib.Core.Bool.{Bool, true, _&&_}
+use mathlib.Core.Bool.{true}
 use mathlib.Core.Path.{_≡_, sym, ap, _∙_}
 use mathlib.Core.List.{List}
 use Prim.Native.Nat.{ℕ, _≤_}
-use borrow.Author.Tests.{leb-true}
-use lib.Dec.{leb}
 use lib.ListN.{length}
 use Rattle.ring.specs.Scheme.{positions}
-use Rattle.ring.proofs.Tests.{and-left, and-right}
 use Rattle.rule.specs.Entry.{Entry}
-use Rattle.rule.specs.Rule.{Ring, mostLimit}
-use Rattle.lent.specs.Table.{mostRelays, relayPlaces, relayNumber, relayLimit, relayWhole, mostTablets, tabletPlaces, tabletNumber, tabletRelay, tabletWhole}
-use Rattle.lent.specs.Shape.{topNumber, shape, relaysUsed, tabletsUsed, relayFits, tabletFits, relayShape, tabletShape}
-use Rattle.lent.specs.Placing.{placed, right}
+use Rattle.rule.specs.Rule.{Ring}
+use Rattle.lent.specs.Table.{mostRelays, relayPlaces, relayNumber, relayLimit, relayWhole, tabletPlaces, tabletNumber, tabletRelay, tabletWhole}
 use Rattle.survey.specs.declared.Survey.{Survey}
 use Rattle.meaning.specs.Meaning.{relaysIn, tabletsIn}
+use Rattle.meaning.proofs.Fit.{Fit, whole-relays, whole-tablets, right-fit}
 use Rattle.meaning.proofs.Right.{Rises}
 use Rattle.write.specs.Tables.{flat, filled, relayTable, tabletTable}
 use Rattle.write.specs.Places.{Zeros}
@@ -30,24 +26,17 @@ module _ {s : ℕ} {rs ts : List ℕ} {n m : ℕ} {v : Survey} (b : Start s rs t
   rises : Rises (positions s) rs ts n m
   rises = start-rises b
 
-  shapes : ((relayWhole rs && leb (relayPlaces rs) mostRelays) ≡ true) × ((tabletWhole ts && leb (tabletPlaces ts) mostTablets) ≡ true)
-  unfolding right relayShape tabletShape relayFits tabletFits
-  shapes =
-      let k₁ : Bool = relayFits rs in
-      let k₂ : Bool = shape mostLimit (relayNumber rs) (relayLimit rs) (relaysUsed rs) (relayPlaces rs) in
-      let k₃ : Bool = tabletFits ts in
-      let k₄ : Bool = shape topNumber (tabletNumber ts) (tabletRelay ts) (tabletsUsed ts) (tabletPlaces ts) in
-      let k₅ : Bool = placed (positions s) rs ts (relaysUsed rs) (tabletsUsed ts) in
-      (and-left k₁ k₂ (and-left (k₁ && k₂) ((k₃ && k₄) && k₅) (b .right)), and-left k₃ k₄ (and-left (k₃ && k₄) k₅ (and-right (k₁ && k₂) ((k₃ && k₄) && k₅) (b .right))))
+  fits : Fit rs ts
+  fits = right-fit rs ts s (b .right)
 
   pub relays-whole : relayWhole rs ≡ true
-  relays-whole = and-left (relayWhole rs) (leb (relayPlaces rs) mostRelays) (shapes .0)
+  relays-whole = whole-relays rs (fits .relays) .0
 
   pub relays-few : relayPlaces rs ≤ mostRelays
-  relays-few = leb-true (relayPlaces rs) mostRelays (and-right (relayWhole rs) (leb (relayPlaces rs) mostRelays) (shapes .0))
+  relays-few = whole-relays rs (fits .relays) .1
 
   pub tablets-whole : tabletWhole ts ≡ true
-  tablets-whole = and-left (tabletWhole ts) (leb (tabletPlaces ts) mostTablets) (shapes .1)
+  tablets-whole = whole-tablets ts (fits .tablets) .0
 
   pub relays-zeros : Zeros (relayNumber rs) (relayLimit rs) n (relayPlaces rs)
   relays-zeros = record { numbers = λ i h k. rises .relaysRest i h .0; besides = λ i h k. rises .relaysRest i h .1 }

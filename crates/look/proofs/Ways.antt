@@ -10,7 +10,6 @@ use borrow.Author.Tests.{not-true, not-false}
 use Rattle.rule.specs.declared.Call.{Call}
 use Rattle.rule.specs.declared.Reply.{Reply}
 use Rattle.rule.specs.Refusals.{isDone, refusedBy}
-use Rattle.meaning.specs.Meaning.{Words}
 use Rattle.look.specs.declared.Looked.{Looked}
 use Rattle.look.specs.Promise.{after, Answers}
 use Rattle.look.specs.Start.{Start, Looks}
@@ -20,8 +19,8 @@ module _ {s : ℕ} {rs ts : List ℕ} {l : Looked} (k : Looks s rs ts l) {done :
   pub look-start : not done ≡ false → Start s rs ts (l .n) (l .m) (l .survey)
   look-start h = k .start (sym e ∙ not-false done h)
 
-  pub look-answers : Words rs → Words ts → not done ≡ true → {reply : Reply} → reply ≡ refusedBy (l .refusal) → (c : Call) (ms : List ℕ)
+  pub look-answers : not done ≡ true → {reply : Reply} → reply ≡ refusedBy (l .refusal) → (c : Call) (ms : List ℕ)
       → Answers (after s rs ts ms c) reply rs ts ms
-  look-answers wr wt h {reply} er c ms =
+  look-answers h {reply} er c ms =
       let no : isDone (l .refusal) ≡ false = sym e ∙ not-true _ h in
-      refused-answers s rs ts ms c (l .refusal) (look-refused s rs ts ms c wr wt (l .refusal) (sym (k .refusal)) no) no reply er
+      refused-answers s rs ts ms c (l .refusal) (look-refused s rs ts ms c (l .refusal) (sym (k .refusal)) no) no reply er

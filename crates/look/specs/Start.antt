@@ -1,24 +1,21 @@
 -- What every call starts from (document 01, "Replies", "The lent tables"): the first two refusals, and what the check of right tables has found.
 -- Assumes nothing.
-use mathlib.Core.Bool.{Bool, true, false, not}
-use mathlib.Core.List.{List, [], _∷_}
+use mathlib.Core.Bool.{Bool, true, false}
+use mathlib.Core.List.{List}
 use mathlib.Core.Path.{_≡_}
 use Prim.Native.Nat.{ℕ}
 use Rattle.ring.specs.Scheme.{known, positions}
 use Rattle.rule.specs.declared.Refusal.{Refusal}
-use Rattle.rule.specs.declared.Refusal.the-variants.{Done, SchemeUnknown, TablesNotRight}
-use Rattle.rule.specs.Refusals.{isDone, bar, firstBar}
+use Rattle.rule.specs.declared.Refusal.the-variants.{Done, TablesNotRight}
+use Rattle.rule.specs.Refusals.{isDone}
 use Rattle.lent.specs.Table.{RelaysIn, TabletsIn}
 use Rattle.lent.specs.Placing.{placed, right}
 use Rattle.lent.specs.Shape.{relaysUsed, tabletsUsed}
 use Rattle.survey.specs.declared.Survey.{Survey}
 use Rattle.survey.specs.Seats.{Surveyed}
-use Rattle.meaning.specs.Meaning.{Words}
+use Rattle.meaning.specs.Meaning.{tablesRight, tablesRefusal, Words}
 use Rattle.look.specs.declared.First.{First}
 use Rattle.look.specs.declared.Looked.{Looked}
-
-unfoldable pub checked : ℕ → List ℕ → List ℕ → Refusal
-checked scheme rs ts = firstBar (bar (not (known scheme)) SchemeUnknown ∷ bar (not (right (positions scheme) rs ts)) TablesNotRight ∷ [])
 
 -- the first refusal, and the second where the placement is not right
 unfoldable pub verdict : Refusal → Bool → Refusal
@@ -34,13 +31,13 @@ pub record NotBarred (scheme : ℕ) (rs ts : List ℕ) (n m : ℕ) : Type 0 wher
 pub record FirstLook (scheme : ℕ) (rs ts : List ℕ) (f : First) : Type 0 where
   pub relaysFit : RelaysIn rs (f .n)
   pub tabletsFit : TabletsIn ts (f .m)
-  pub refused : isDone (f .refusal) ≡ false → (checked scheme rs ts ≡ f .refusal) × (f .m ≡ 0)
+  pub refused : isDone (f .refusal) ≡ false → (tablesRefusal scheme rs ts ≡ f .refusal) × (f .m ≡ 0)
   pub passed : isDone (f .refusal) ≡ true → (f .refusal ≡ Done) × NotBarred scheme rs ts (f .n) (f .m)
 
 -- the scheme is known and the tables are right: n relays and m tablets, and what was learnt of them
 pub record Start (scheme : ℕ) (rs ts : List ℕ) (n m : ℕ) (s : Survey) : Type 0 where
   pub known : known scheme ≡ true
-  pub right : right (positions scheme) rs ts ≡ true
+  pub right : tablesRight scheme rs ts ≡ true
   pub relays : n ≡ relaysUsed rs
   pub tablets : m ≡ tabletsUsed ts
   pub surveyed : Surveyed (positions scheme) rs ts n m (s .keys) (s .room) (s .next) (s .last) (s .home) (s .slot)
@@ -48,5 +45,5 @@ pub record Start (scheme : ℕ) (rs ts : List ℕ) (n m : ℕ) (s : Survey) : Ty
   pub tabletWords : Words ts
 
 pub record Looks (scheme : ℕ) (rs ts : List ℕ) (l : Looked) : Type 0 where
-  pub refusal : l .refusal ≡ checked scheme rs ts
+  pub refusal : l .refusal ≡ tablesRefusal scheme rs ts
   pub start : isDone (l .refusal) ≡ true → Start scheme rs ts (l .n) (l .m) (l .survey)

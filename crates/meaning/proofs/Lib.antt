@@ -4,6 +4,7 @@ pub mod More
 pub mod Edits
 pub mod Words
 pub mod Shapes
+pub mod Fit
 pub mod Keys
 pub mod Choice
 pub mod Run

@@ -10,10 +10,10 @@ use mathlib.Core.Path.{_≡_, refl, sym, ap}
 use mathlib.Core.List.{List}
 use Prim.Native.Nat.{ℕ, _-_, _≤_, _<_}
 use native.Mathlib.Omega.{arith}
-use borrow.Author.Tests.{ltb-true, ltb-false, leb-true}
-use lib.Dec.{ltb, leb}
+use borrow.Author.Tests.{ltb-true, ltb-false}
+use lib.Dec.{ltb}
 use lib.ListN.{getD}
-use Rattle.ring.specs.Scheme.{Positions}
+use Rattle.ring.specs.Scheme.{Positions, positions}
 use Rattle.ring.proofs.Tests.{split, and-left, and-right}
 use Rattle.rule.specs.Entry.{Entry, load}
 use Rattle.rule.specs.Rule as Rule
@@ -24,10 +24,11 @@ use Rattle.lent.specs.Table.{mostRelays, relayPlaces, relayNumber, relayLimit, 
 use Rattle.lent.specs.Shape.{topNumber, relaysUsed, tabletsUsed, relayFits, tabletFits, relayShape, tabletShape, shape}
 use Rattle.lent.specs.Placing as Lent
 use Rattle.lent.proofs.Shaped.{used-most}
-use Rattle.meaning.specs.Meaning.{relaysIn, tabletsIn, ringOf, restUnused, fitTables, Words}
+use Rattle.meaning.specs.Meaning.{relaysIn, tabletsIn, ringOf, fitTables, tablesRight, Words}
 use Rattle.meaning.specs.Ascending.{Ascending}
 use Rattle.meaning.proofs.Places.{length-places, table-places, places-table, limits-places, places-limits}
 use Rattle.meaning.proofs.Words.{relay-number-word, tablet-number-word, tablet-relay-word, relay-beyond, tablet-beyond}
+use Rattle.meaning.proofs.Fit.{Fit, whole-relays, whole-tablets, right-fit, right-ruled}
 use Rattle.meaning.proofs.Shapes.{Shaped, shape-is, shape-from, rest-is, rest-from}
 use Rattle.meaning.proofs.Run.{run-room}
 use Rattle.meaning.proofs.Placed.{Ruled, Found, found-seated, placed-is, ruled-found, placed-from}
@@ -54,20 +55,6 @@ record Facts (p : Positions) (rs ts : List ℕ) (n m : ℕ) : Type 0 where
   pub tablets : Shaped topNumber (tabletNumber ts) (tabletRelay ts) m (tabletPlaces ts)
   pub ruled : Ruled p rs ts n m
 
-fits-relays : (rs : List ℕ) → relayFits rs ≡ true → (relayWhole rs ≡ true) × (relayPlaces rs ≤ mostRelays)
-unfolding relayFits
-fits-relays rs e =
-    let w : Bool = relayWhole rs in
-    let f : Bool = leb (relayPlaces rs) mostRelays in
-    (and-left w f e, leb-true (relayPlaces rs) mostRelays (and-right w f e))
-
-fits-tablets : (ts : List ℕ) → tabletFits ts ≡ true → (tabletWhole ts ≡ true) × (tabletPlaces ts ≤ mostTablets)
-unfolding tabletFits
-fits-tablets ts e =
-    let w : Bool = tabletWhole ts in
-    let f : Bool = leb (tabletPlaces ts) mostTablets in
-    (and-left w f e, leb-true (tabletPlaces ts) mostTablets (and-right w f e))
-
 -- two tests that follow from one another are one
 pub same-test : (a b : Bool) → (a ≡ true → b ≡ true) → (b ≡ true → a ≡ true) → a ≡ b
 same-test true b f g = sym (f refl)
@@ -90,7 +77,7 @@ module _ (p : Positions) (rs ts : List ℕ) where
   m-most = used-most (tabletNumber ts) (tabletPlaces ts)
 
   facts-few : Facts p rs ts n m → n ≤ mostRelays
-  facts-few f = omega (arith, n-most, fits-relays rs (f .relaysFit) .1)
+  facts-few f = omega (arith, n-most, whole-relays rs (f .relaysFit) .1)
 
   facts-lent : Facts p rs ts n m → Lent.right p rs ts ≡ true
   unfolding Lent.right relayShape tabletShape
@@ -127,8 +114,8 @@ module _ (p : Positions) (rs ts : List ℕ) where
 
   facts-rises : Facts p rs ts n m → Rises p rs ts n m
   facts-rises f =
-      let fr : (relayWhole rs ≡ true) × (relayPlaces rs ≤ mostRelays) = fits-relays rs (f .relaysFit) in
-      let ft : (tabletWhole ts ≡ true) × (tabletPlaces ts ≤ mostTablets) = fits-tablets ts (f .tabletsFit) in
+      let fr : (relayWhole rs ≡ true) × (relayPlaces rs ≤ mostRelays) = whole-relays rs (f .relaysFit) in
+      let ft : (tabletWhole ts ≡ true) × (tabletPlaces ts ≤ mostTablets) = whole-tablets ts (f .tabletsFit) in
       record {
         relaysFit = omega (arith, n-most);
         tabletsFit = omega (arith, m-most);
@@ -167,48 +154,46 @@ module _ (p : Positions) (rs ts : List ℕ) where
           tabletsFit = and-left k₃ k₄ t;
           relays = sr;
           tablets = shape-is topNumber (tabletNumber ts) (tabletRelay ts) m (tabletPlaces ts) (tablet-number-word wt) (and-right k₃ k₄ t);
-          ruled = placed-is p rs ts n m (omega (arith, n-most, fits-relays rs fr .1)) (sr .numbers) (and-right (k₃ && k₄) k₅ e₁);
+          ruled = placed-is p rs ts n m (omega (arith, n-most, whole-relays rs fr .1)) (sr .numbers) (and-right (k₃ && k₄) k₅ e₁);
         }
 
-    rule-facts : (fitTables rs ts && Rule.right p (ringOf rs ts)) ≡ true → Facts p rs ts n m
-    unfolding fitTables ringOf
-    rule-facts e =
-        let k₁ : Bool = relayFits rs in
-        let k₂ : Bool = tabletFits ts in
-        let k₃ : Bool = restUnused (relayNumber rs) (relayLimit rs) n (relayPlaces rs) in
-        let k₄ : Bool = restUnused (tabletNumber ts) (tabletRelay ts) m (tabletPlaces ts) in
-        let f : fitTables rs ts ≡ true = and-left (fitTables rs ts) (Rule.right p (ringOf rs ts)) e in
-        let f₁ : (k₂ && (k₃ && k₄)) ≡ true = and-right k₁ (k₂ && (k₃ && k₄)) f in
-        let f₂ : (k₃ && k₄) ≡ true = and-right k₂ (k₃ && k₄) f₁ in
-        let r : Right.Right p (ringOf rs ts) = Right.right-is p (ringOf rs ts) (and-right (fitTables rs ts) (Rule.right p (ringOf rs ts)) e) in
+    rule-facts : Fit rs ts → Rule.right p (ringOf rs ts) ≡ true → Facts p rs ts n m
+    unfolding ringOf
+    rule-facts f e =
+        let r : Right.Right p (ringOf rs ts) = Right.right-is p (ringOf rs ts) e in
         record {
-          relaysFit = and-left k₁ (k₂ && (k₃ && k₄)) f;
-          tabletsFit = and-left k₂ (k₃ && k₄) f₁;
+          relaysFit = f .relays;
+          tabletsFit = f .tablets;
           relays =
               record {
                 numbers = places-table (relayNumber rs) (relayLimit rs) n (r .relays);
                 beside = places-limits (relayNumber rs) (relayLimit rs) n (r .limits);
-                rest = rest-is (relayNumber rs) (relayLimit rs) n (relayPlaces rs) (and-left k₃ k₄ f₂);
+                rest = rest-is (relayNumber rs) (relayLimit rs) n (relayPlaces rs) (f .relaysRest);
               };
           tablets =
               record {
                 numbers = places-table (tabletNumber ts) (tabletRelay ts) m (r .tablets);
                 beside = λ j h. omega (arith, tablet-relay-word wt j);
-                rest = rest-is (tabletNumber ts) (tabletRelay ts) m (tabletPlaces ts) (and-right k₃ k₄ f₂);
+                rest = rest-is (tabletNumber ts) (tabletRelay ts) m (tabletPlaces ts) (f .tabletsRest);
               };
           ruled = record { enough = omega (arith, r .enough, length-places (tabletNumber ts) (tabletRelay ts) m); filled = r .ruled };
         }
 
 -- ---- the laws
 
-pub right-meaning : (p : Positions) (rs ts : List ℕ) → Words rs → Words ts → Lent.right p rs ts ≡ (fitTables rs ts && Rule.right p (ringOf rs ts))
-right-meaning p rs ts wr wt =
-    same-test (Lent.right p rs ts) (fitTables rs ts && Rule.right p (ringOf rs ts))
-    (λ e. facts-rule p rs ts (lent-facts p rs ts wr wt e))
-    (λ e. facts-lent p rs ts (rule-facts p rs ts wr wt e))
+module _ (s : ℕ) (rs ts : List ℕ) (wr : Words rs) (wt : Words ts) where
+  right-facts : tablesRight s rs ts ≡ true → Facts (positions s) rs ts (relaysUsed rs) (tabletsUsed ts)
+  right-facts ok = rule-facts (positions s) rs ts wr wt (right-fit rs ts s ok) (right-ruled rs ts s ok)
 
-pub right-rises : (p : Positions) (rs ts : List ℕ) → Words rs → Words ts → Lent.right p rs ts ≡ true → Rises p rs ts (relaysUsed rs) (tabletsUsed ts)
-right-rises p rs ts wr wt e = facts-rises p rs ts (lent-facts p rs ts wr wt e)
+  pub right-meaning : Lent.right (positions s) rs ts ≡ tablesRight s rs ts
+  unfolding tablesRight
+  right-meaning =
+      same-test (Lent.right (positions s) rs ts) (tablesRight s rs ts)
+      (λ e. facts-rule (positions s) rs ts (lent-facts (positions s) rs ts wr wt e))
+      (λ e. facts-lent (positions s) rs ts (right-facts e))
+
+  pub right-rises : tablesRight s rs ts ≡ true → Rises (positions s) rs ts (relaysUsed rs) (tabletsUsed ts)
+  right-rises e = facts-rises (positions s) rs ts (right-facts e)
 
 module _ {p : Positions} {rs ts : List ℕ} {n m : ℕ} (r : Rises p rs ts n m) where
   -- each tablet's relay is found, and is the one written there

@@ -1,12 +1,16 @@
--- What the lent numbers mean (document 01, "The lent tables"): the entries of the tables, and how they are lent. Assumes nothing.
-use mathlib.Core.Bool.{Bool, _&&_, _||_}
+-- What the lent numbers mean (document 01, "The lent tables"): the entries of the tables, when the tables are right, and how they are lent. Assumes
+-- nothing.
+use mathlib.Core.Bool.{Bool, not, _&&_, _||_}
 use mathlib.Core.List.{List, [], _∷_, _++_}
 use Prim.Native.Nat.{ℕ, zero, suc, _/_, _^_, _<_}
 use lib.Dec.{ltb}
 use lib.ListN.{length, getD}
-use Rattle.ring.specs.Scheme.{known}
+use Rattle.ring.specs.Scheme.{known, positions}
+use Rattle.rule.specs.declared.Refusal.{Refusal}
+use Rattle.rule.specs.declared.Refusal.the-variants.{SchemeUnknown, TablesNotRight}
 use Rattle.rule.specs.Entry.{Entry, entry}
-use Rattle.rule.specs.Rule.{Ring}
+use Rattle.rule.specs.Rule.{Ring, right}
+use Rattle.rule.specs.Refusals.{Bar, bar, firstBar}
 use Rattle.rule.specs.Calls.{Lent}
 use Rattle.lent.specs.Table.{relayPlaces, relayNumber, relayLimit, tabletPlaces, tabletNumber, tabletRelay}
 use Rattle.lent.specs.Shape.{all, unused, relaysUsed, tabletsUsed, relayFits, tabletFits}
@@ -35,6 +39,18 @@ unfoldable pub fitTables : List ℕ → List ℕ → Bool
 fitTables rs ts =
     relayFits rs && (tabletFits ts && (restUnused (relayNumber rs) (relayLimit rs) (relaysUsed rs) (relayPlaces rs)
     && restUnused (tabletNumber ts) (tabletRelay ts) (tabletsUsed ts) (tabletPlaces ts)))
+
+-- right tables: such as may be lent, and every tablet at the relay that the rule gives it
+unfoldable pub tablesRight : ℕ → List ℕ → List ℕ → Bool
+tablesRight scheme rs ts = fitTables rs ts && right (positions scheme) (ringOf rs ts)
+
+-- the two refusals of what is lent, before those that follow
+unfoldable pub tablesBars : ℕ → List ℕ → List ℕ → List Bar → List Bar
+tablesBars scheme rs ts later = bar (not (known scheme)) SchemeUnknown ∷ bar (not (tablesRight scheme rs ts)) TablesNotRight ∷ later
+
+-- the refusal that every call gives for what is lent, whatever else it is given
+unfoldable pub tablesRefusal : ℕ → List ℕ → List ℕ → Refusal
+tablesRefusal scheme rs ts = firstBar (tablesBars scheme rs ts [])
 
 -- a move takes three numbers of the list
 unfoldable pub lentOf : ℕ → List ℕ → List ℕ → List ℕ → Lent

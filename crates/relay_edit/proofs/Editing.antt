@@ -72,7 +72,7 @@ module _ {s : ℕ} {rs ts : List ℕ} {x : ℕ} {f : Found} (found : Finds s rs 
   pub found-refused : {c : Call} {e : Edit} → not d ≡ true → About c x → e .refusal ≡ f .refusal → Edits s rs ts c x e
   found-refused {c} h a e =
       let n : isDone (f .refusal) ≡ false = sym ed ∙ not-true _ h in
-      refused-edit a n e (λ ms. look-refused s rs ts ms c (found .relayWords) (found .tabletWords) (f .refusal) (sym (found .refusal)) n)
+      refused-edit a n e (λ ms. look-refused s rs ts ms c (f .refusal) (sym (found .refusal)) n)
 
   pub found-stands : not d ≡ false → Stands s rs ts x (f .n) (f .m) (f .at) (f .there) (f .around)
   found-stands h = found .stands (sym ed ∙ not-false d h)

@@ -7,8 +7,8 @@ use Rattle.rule.specs.Entry.{has}
 use Rattle.rule.specs.Refusals.{isDone}
 use Rattle.lent.specs.Table.{relayNumber}
 use Rattle.survey.specs.declared.Survey.{Survey}
-use Rattle.meaning.specs.Meaning.{Words, relaysIn}
-use Rattle.look.specs.Start.{checked, Start}
+use Rattle.meaning.specs.Meaning.{relaysIn, tablesRefusal}
+use Rattle.look.specs.Start.{Start}
 use Rattle.spot.specs.Spot.{Spot}
 use Rattle.homes.specs.declared.Around.{Around}
 use Rattle.relay_edit.specs.declared.found.Found.{Found}
@@ -23,7 +23,5 @@ pub record Stands (s : ℕ) (rs ts : List ℕ) (r n m at : ℕ) (there : Bool) (
   pub there-is : there ≡ has (relaysIn rs n) r
 
 pub record Finds (s : ℕ) (rs ts : List ℕ) (r : ℕ) (f : Found) : Type 0 where
-  pub refusal : f .refusal ≡ checked s rs ts
-  pub relayWords : Words rs
-  pub tabletWords : Words ts
+  pub refusal : f .refusal ≡ tablesRefusal s rs ts
   pub stands : isDone (f .refusal) ≡ true → Stands s rs ts r (f .n) (f .m) (f .at) (f .there) (f .around)

@@ -21,16 +21,15 @@ use Rattle.rule.specs.Stability.{Rising}
 use Rattle.rule.proofs.Right as Right
 use Rattle.lent.specs.Table.{mostRelays, relayPlaces, relayNumber, relayLimit, relayWhole, mostTablets, tabletPlaces, tabletNumber, tabletRelay, tabletWhole}
 use Rattle.lent.specs.Shape.{used, relaysUsed, tabletsUsed, relayFits, tabletFits}
-use Rattle.lent.specs.Placing as Lent
-use Rattle.meaning.specs.Meaning.{relaysIn, tabletsIn, ringOf, fitTables, Words}
+use Rattle.meaning.specs.Meaning.{relaysIn, tabletsIn, ringOf, fitTables, tablesRight, tablesBars, tablesRefusal}
 use Rattle.meaning.specs.Ascending.{Ascending}
 use Rattle.meaning.proofs.Places.{places-table}
-use Rattle.meaning.proofs.Right.{same-test, right-meaning}
+use Rattle.meaning.proofs.Fit.{right-ruled}
+use Rattle.meaning.proofs.Right.{same-test}
 use Rattle.meaning.proofs.Shapes.{rest-from}
 use Rattle.survey.specs.declared.Survey.{Survey}
 use Rattle.write.specs.Tables.{flat}
-use Rattle.look.specs.Start.{checked, Start}
-use Rattle.look.proofs.Refusing.{tables-right}
+use Rattle.look.specs.Start.{Start}
 use Rattle.roster.specs.Content.{numbered, ringRight}
 use Rattle.roster.specs.Inner.{fullTables}
 use Rattle.write.proofs.Filled.{length-flat}
@@ -39,21 +38,21 @@ use Rattle.roster.proofs.Blocks.{flat-places}
 -- ---- what the check found
 
 module _ (s : ℕ) (rs ts : List ℕ) where
-  pub full-refused : known s ≡ true → Words rs → Words ts → {r : Refusal} → r ≡ checked s rs ts → isDone r ≡ false → false ≡ fullTables s rs ts
-  unfolding fullTables checked firstBar isDone
-  full-refused k wr wt {r} e h =
-      split (Lent.right (positions s) rs ts)
+  pub full-refused : known s ≡ true → {r : Refusal} → r ≡ tablesRefusal s rs ts → isDone r ≡ false → false ≡ fullTables s rs ts
+  unfolding fullTables tablesRefusal tablesBars firstBar isDone
+  full-refused k {r} e h =
+      split (tablesRight s rs ts)
       (λ t. absurd (true-false (sym (ap isDone e ∙ rw (k, t)) ∙ h)))
-      (λ t. rw (sym (right-meaning (positions s) rs ts wr wt) ∙ t))
+      (λ t. rw t)
 
 module _ {s : ℕ} {rs ts : List ℕ} {n m : ℕ} {v : Survey} (b : Start s rs ts n m v) {k : ℕ} (ek : k ≡ relayPlaces rs) where
   pub full-relays : (n ≡ k → ⊥) → false ≡ fullTables s rs ts
   unfolding fullTables
-  full-relays d = rw (tables-right b, ← b .relays, ← ek, ne-eqb n k d)
+  full-relays d = rw (b .right, ← b .relays, ← ek, ne-eqb n k d)
 
   pub full-tablets : n ≡ k → {l : ℕ} → l ≡ tabletPlaces ts → eqb m l ≡ fullTables s rs ts
   unfolding fullTables
-  full-tablets d el = rw (tables-right b, ← b .relays, ← ek, eq-eqb n k d, ← b .tablets, el)
+  full-tablets d el = rw (b .right, ← b .relays, ← ek, eq-eqb n k d, ← b .tablets, el)
 
 -- ---- that it is the content
 
@@ -124,20 +123,19 @@ module _ (s : ℕ) (es fs : List Entry) (few : length es ≤ mostRelays) (fewer 
   full-is : fullTables s rs ts ≡ true → ringRight s ring ≡ true
   unfolding fullTables ringRight
   full-is e =
-      let k₁ : Bool = fitTables rs ts in
-      let k₂ : Bool = Rule.right (positions s) (ringOf rs ts) in
-      let k₃ : Bool = eqb (relaysUsed rs) (relayPlaces rs) in
-      let k₄ : Bool = eqb (tabletsUsed ts) (tabletPlaces ts) in
-      let e₁ : (k₁ && k₂) ≡ true = and-left (k₁ && k₂) (k₃ && k₄) e in
-      let e₂ : (k₃ && k₄) ≡ true = and-right (k₁ && k₂) (k₃ && k₄) e in
-      let er : relaysUsed rs ≡ n = eqb-true _ _ (and-left k₃ k₄ e₂) ∙ relay-places in
-      let et : tabletsUsed ts ≡ m = eqb-true _ _ (and-right k₃ k₄ e₂) ∙ tablet-places in
-      let t : Rule.right (positions s) ring ≡ true = ap (Rule.right (positions s)) (sym (full-ring er et)) ∙ and-right k₁ k₂ e₁ in
+      let k₁ : Bool = tablesRight s rs ts in
+      let k₂ : Bool = eqb (relaysUsed rs) (relayPlaces rs) in
+      let k₃ : Bool = eqb (tabletsUsed ts) (tabletPlaces ts) in
+      let e₁ : (k₂ && k₃) ≡ true = and-right k₁ (k₂ && k₃) e in
+      let er : relaysUsed rs ≡ n = eqb-true _ _ (and-left k₂ k₃ e₁) ∙ relay-places in
+      let et : tabletsUsed ts ≡ m = eqb-true _ _ (and-right k₂ k₃ e₁) ∙ tablet-places in
+      let t : Rule.right (positions s) ring ≡ true =
+      ap (Rule.right (positions s)) (sym (full-ring er et)) ∙ right-ruled rs ts s (and-left k₁ (k₂ && k₃) e) in
       let r : Right.Right (positions s) ring = Right.right-is (positions s) ring t in
       rw (rising-numbered 0 es (r .relays .up), rising-numbered 0 fs (r .tablets .up), t)
 
   full-from : ringRight s ring ≡ true → fullTables s rs ts ≡ true
-  unfolding fullTables ringRight relaysUsed tabletsUsed
+  unfolding fullTables tablesRight ringRight relaysUsed tabletsUsed
   full-from e =
       let k₁ : Bool = numbered es in
       let k₂ : Bool = numbered fs in

@@ -5,14 +5,13 @@ use mathlib.Core.Path.{_≡_}
 use Prim.Native.Nat.{ℕ, _*_, _+_, _≤_}
 use lib.Dec.{eqb}
 use lib.ListN.{length}
-use Rattle.ring.specs.Scheme.{known, positions}
+use Rattle.ring.specs.Scheme.{known}
 use Rattle.rule.specs.declared.Refusal.{Refusal}
 use Rattle.rule.specs.declared.Refusal.the-variants.{SchemeUnknown, RosterShapeWrong, OutputUnfit}
 use Rattle.rule.specs.Refusals.{bar, firstBar}
-use Rattle.rule.specs.Rule.{right}
 use Rattle.lent.specs.Table.{relayPlaces, tabletPlaces}
 use Rattle.lent.specs.Shape.{relaysUsed, tabletsUsed}
-use Rattle.meaning.specs.Meaning.{ringOf, fitTables}
+use Rattle.meaning.specs.Meaning.{tablesRight}
 use Rattle.write.specs.Tables.{flat, filled}
 use Rattle.layout.specs.Roster.{entryBytes, block}
 use Rattle.roster.specs.Content.{tablesFit}
@@ -25,7 +24,7 @@ earlyRefusal shape scheme n m rs ts =
 -- right tables with an entry in every place
 unfoldable pub fullTables : ℕ → List ℕ → List ℕ → Bool
 fullTables scheme rs ts =
-    (fitTables rs ts && right (positions scheme) (ringOf rs ts)) && (eqb (relaysUsed rs) (relayPlaces rs) && eqb (tabletsUsed ts) (tabletPlaces ts))
+    tablesRight scheme rs ts && (eqb (relaysUsed rs) (relayPlaces rs) && eqb (tabletsUsed ts) (tabletPlaces ts))
 
 -- the bytes have n and m entries, scratch has as many places, and what is lent has at least as many
 pub record Room (b : List ℕ) (n m : ℕ) (own own₂ rs ts : List ℕ) : Type 0 where

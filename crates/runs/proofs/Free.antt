@@ -3,81 +3,54 @@
 --   run-free         so two runs that end with the same sets end with the same tables, whatever calls led there
 --   run-loads        from empty tables and a zero tally the relays' loads sum to enrolments less withdrawals
 -- Assumes nothing.
-use mathlib.Core.Bool.{Bool, true, _&&_}
+use mathlib.Core.Bool.{true}
 use mathlib.Core.List.{List, [], _∷_}
 use mathlib.Core.Path.{_≡_, refl, sym, ap, ap₂, subst, _∙_}
 use Prim.Native.Nat.{ℕ, _+_}
-use lib.Dec.{leb}
 use lib.ListN.{length}
 use Rattle.ring.specs.Scheme.{positions}
-use Rattle.ring.proofs.Tests.{and-left, and-right}
 use Rattle.rule.specs.declared.Call.{Call}
 use Rattle.rule.specs.Entry.{loads}
-use Rattle.rule.specs.Rule as Rule
 use Rattle.rule.specs.Tally.{Station, run, new}
 use Rattle.rule.proofs.History.{Fit, SameSets, same-tables}
 use Rattle.rule.proofs.Tallies.{Going, tally-loads}
-use Rattle.lent.specs.Table.{mostRelays, relayPlaces, relayNumber, relayLimit, relayWhole, mostTablets, tabletPlaces, tabletNumber, tabletRelay, tabletWhole}
-use Rattle.lent.specs.Shape.{relaysUsed, tabletsUsed, relayFits, tabletFits}
+use Rattle.lent.specs.Table.{relayPlaces, relayNumber, relayLimit, tabletPlaces, tabletNumber, tabletRelay}
+use Rattle.lent.specs.Shape.{relaysUsed, tabletsUsed}
 use Rattle.lent.proofs.Shaped.{used-most}
-use Rattle.meaning.specs.Meaning.{places, restUnused, ringOf, fitTables}
+use Rattle.meaning.specs.Meaning.{places, ringOf, tablesRight}
+use Rattle.meaning.proofs.Fit as Tables
+use Rattle.meaning.proofs.Fit.{whole-relays, whole-tablets, right-fit, right-ruled}
 use Rattle.write.specs.Tables.{relayTable, tabletTable}
 use Rattle.write.proofs.Filled.{rest-zeros, relays-filled, tablets-filled}
 use Rattle.tally.specs.Counted.{tallyOf}
-use Rattle.runs.specs.Runs.{Memory, called, calledAll, tablesRight}
+use Rattle.runs.specs.Runs.{Memory, called, calledAll}
 use Rattle.runs.proofs.Running.{Small, called-stands, run-right, stationOf, stepsOf, run-means}
 
 -- ---- tables that fit are the paper's tables of what they mean
 
-module _ (rs ts : List ℕ) (fits : fitTables rs ts ≡ true) where
-  abbrev relaysRest : Bool
-  relaysRest = restUnused (relayNumber rs) (relayLimit rs) (relaysUsed rs) (relayPlaces rs)
-
-  abbrev tabletsRest : Bool
-  tabletsRest = restUnused (tabletNumber ts) (tabletRelay ts) (tabletsUsed ts) (tabletPlaces ts)
-
-  behind-relays : (tabletFits ts && (relaysRest && tabletsRest)) ≡ true
-  unfolding fitTables
-  behind-relays = and-right (relayFits rs) (tabletFits ts && (relaysRest && tabletsRest)) fits
-
-  rests : (relaysRest && tabletsRest) ≡ true
-  rests = and-right (tabletFits ts) (relaysRest && tabletsRest) behind-relays
-
-  relays-whole : relayWhole rs ≡ true
-  unfolding fitTables relayFits
-  relays-whole =
-      and-left (relayWhole rs) (leb (relayPlaces rs) mostRelays) (and-left (relayFits rs) (tabletFits ts && (relaysRest && tabletsRest)) fits)
-
-  tablets-whole : tabletWhole ts ≡ true
-  unfolding tabletFits
-  tablets-whole =
-      and-left (tabletWhole ts) (leb (tabletPlaces ts) mostTablets) (and-left (tabletFits ts) (relaysRest && tabletsRest) behind-relays)
-
+module _ (rs ts : List ℕ) (fits : Tables.Fit rs ts) where
   relays-stay : rs ≡ relayTable (length rs) (ringOf rs ts)
   unfolding relayTable ringOf relaysUsed
   relays-stay =
-      relays-filled rs (relaysUsed rs) relays-whole (used-most (relayNumber rs) (relayPlaces rs))
-      (rest-zeros (relayNumber rs) (relayLimit rs) (relaysUsed rs) (relayPlaces rs) (and-left relaysRest tabletsRest rests))
+      relays-filled rs (relaysUsed rs) (whole-relays rs (fits .relays) .0) (used-most (relayNumber rs) (relayPlaces rs))
+      (rest-zeros (relayNumber rs) (relayLimit rs) (relaysUsed rs) (relayPlaces rs) (fits .relaysRest))
 
   tablets-stay : ts ≡ tabletTable (length ts) (ringOf rs ts)
   unfolding tabletTable ringOf tabletsUsed
   tablets-stay =
-      tablets-filled ts (tabletsUsed ts) tablets-whole (used-most (tabletNumber ts) (tabletPlaces ts))
-      (rest-zeros (tabletNumber ts) (tabletRelay ts) (tabletsUsed ts) (tabletPlaces ts) (and-right relaysRest tabletsRest rests))
+      tablets-filled ts (tabletsUsed ts) (whole-tablets ts (fits .tablets) .0) (used-most (tabletNumber ts) (tabletPlaces ts))
+      (rest-zeros (tabletNumber ts) (tabletRelay ts) (tabletsUsed ts) (tabletPlaces ts) (fits .tabletsRest))
 
 -- ---- history plays no part
 
 module _ (s : ℕ) (rs₁ ts₁ rs₂ ts₂ : List ℕ) where
   pub same-numbers : tablesRight s rs₁ ts₁ ≡ true → tablesRight s rs₂ ts₂ ≡ true → length rs₁ ≡ length rs₂ → length ts₁ ≡ length ts₂
       → SameSets (ringOf rs₁ ts₁) (ringOf rs₂ ts₂) → (rs₁ ≡ rs₂) × (ts₁ ≡ ts₂)
-  unfolding tablesRight
   same-numbers ok₁ ok₂ er et same =
-      let r₁ : Bool = Rule.right (positions s) (ringOf rs₁ ts₁) in
-      let r₂ : Bool = Rule.right (positions s) (ringOf rs₂ ts₂) in
-      let f₁ : fitTables rs₁ ts₁ ≡ true = and-left (fitTables rs₁ ts₁) r₁ ok₁ in
-      let f₂ : fitTables rs₂ ts₂ ≡ true = and-left (fitTables rs₂ ts₂) r₂ ok₂ in
+      let f₁ : Tables.Fit rs₁ ts₁ = right-fit rs₁ ts₁ s ok₁ in
+      let f₂ : Tables.Fit rs₂ ts₂ = right-fit rs₂ ts₂ s ok₂ in
       let e : ringOf rs₁ ts₁ ≡ ringOf rs₂ ts₂ =
-      same-tables (positions s) (ringOf rs₁ ts₁) (ringOf rs₂ ts₂) (and-right (fitTables rs₁ ts₁) r₁ ok₁) (and-right (fitTables rs₂ ts₂) r₂ ok₂) same in
+      same-tables (positions s) (ringOf rs₁ ts₁) (ringOf rs₂ ts₂) (right-ruled rs₁ ts₁ s ok₁) (right-ruled rs₂ ts₂ s ok₂) same in
       (relays-stay rs₁ ts₁ f₁ ∙ ap₂ relayTable er e ∙ sym (relays-stay rs₂ ts₂ f₂), tablets-stay rs₁ ts₁ f₁ ∙ ap₂ tabletTable et e ∙ sym (tablets-stay rs₂ ts₂ f₂))
 
 run-lengths : (s : ℕ) (m : Memory) (cs : List Call) → Small cs → tablesRight s (m .relays) (m .tablets) ≡ true

@@ -2,26 +2,25 @@
 --   call-reply      the reply is the outcome's
 --   call-stands     the tables afterwards
 -- Assumes nothing.
-use mathlib.Core.Bool.{Bool, true, false, _&&_}
+use mathlib.Core.Bool.{true, false}
 use mathlib.Core.List.{List}
 use mathlib.Core.Path.{_≡_, refl}
 use Prim.Native.Nat.{ℕ, _^_, _≤_, _<_}
 use native.Mathlib.Omega.{arith}
 use lib.ListN.{length}
 use Rattle.ring.specs.Scheme.{Positions, positions}
-use Rattle.ring.proofs.Tests.{split, and-left, and-right}
+use Rattle.ring.proofs.Tests.{split}
 use Rattle.rule.specs.declared.Call.{Call}
 use Rattle.rule.specs.Rule as Rule
 use Rattle.rule.specs.Refusals.{isDone}
 use Rattle.rule.specs.Calls as Calls
 use Rattle.rule.proofs.Right.{Right, right-is, right-from}
 use Rattle.rule.proofs.Accepted.{Accepted, accepted-is, Edited, edited-tables, after-length, after-right, outcome-accepted, outcome-declined}
-use Rattle.lent.specs.Table.{relayPlaces, relayNumber, relayLimit, tabletPlaces, tabletNumber, tabletRelay}
-use Rattle.lent.specs.Shape.{relaysUsed, tabletsUsed, relayFits, tabletFits}
-use Rattle.meaning.specs.Meaning.{restUnused, ringOf, lentOf, fitTables}
+use Rattle.lent.specs.Table.{relayPlaces, tabletPlaces}
+use Rattle.meaning.specs.Meaning.{ringOf, tablesRight, lentOf}
+use Rattle.meaning.proofs.Fit.{Fit, right-fit, right-ruled}
 use Rattle.look.specs.Promise.{outcomeOf, written, unchanged, settled, after}
 use Rattle.look.proofs.Refusing.{settled-declined}
-use Rattle.runs.specs.Runs.{tablesRight}
 use Rattle.runs.proofs.Again.{ring-again, fit-again, lengths-again}
 use Rattle.runs.proofs.Rooms.{relays-room, tablets-room}
 
@@ -57,43 +56,26 @@ module _ (s : ℕ) (rs ts ms : List ℕ) (c : Call) where
       (λ d. rw (after-accepted d, outcome-accepted p lent g c d))
       (λ d. rw (after-declined d, outcome-declined p lent g c d))
 
-  abbrev relaysRest : Bool
-  relaysRest = restUnused (relayNumber rs) (relayLimit rs) (relaysUsed rs) (relayPlaces rs)
-
-  abbrev tabletsRest : Bool
-  tabletsRest = restUnused (tabletNumber ts) (tabletRelay ts) (tabletsUsed ts) (tabletPlaces ts)
-
   module _ (small : Calls.subject c < 2 ^ 32) (ok : tablesRight s rs ts ≡ true) where
-    relays-fit : relayFits rs ≡ true
-    unfolding tablesRight fitTables
-    relays-fit = and-left (relayFits rs) (tabletFits ts && (relaysRest && tabletsRest)) (and-left (fitTables rs ts) (Rule.right p g) ok)
-
-    tablets-fit : tabletFits ts ≡ true
-    unfolding tablesRight fitTables
-    tablets-fit =
-        and-left (tabletFits ts) (relaysRest && tabletsRest)
-        (and-right (relayFits rs) (tabletFits ts && (relaysRest && tabletsRest)) (and-left (fitTables rs ts) (Rule.right p g) ok))
-
-    ruled : Rule.right p g ≡ true
-    unfolding tablesRight
-    ruled = and-right (fitTables rs ts) (Rule.right p g) ok
+    fits : Fit rs ts
+    fits = right-fit rs ts s ok
 
     stands-accepted : isDone (Calls.refusal p lent g c) ≡ true
         → Stands s rs ts (Calls.after p g c) (written rs ts ms (Calls.accepted p g c) .relays) (written rs ts ms (Calls.accepted p g c) .tablets)
     unfolding written Calls.accepted Calls.after tablesRight
     stands-accepted d =
         let a : Accepted p lent g c = accepted-is p lent g c d in
-        let e : Edited g c = edited-tables p lent g c (right-is p g ruled) (a .numbers) small in
+        let e : Edited g c = edited-tables p lent g c (right-is p g (right-ruled rs ts s ok)) (a .numbers) small in
         let r : Right p (Calls.after p g c) = after-right p g c e (a .enough) in
         let relaysRoom : length (Calls.after p g c .relays) ≤ relayPlaces rs = relays-room s rs ts ms c (a .numbers) in
         let tabletsRoom : length (Calls.after p g c .tablets) ≤ tabletPlaces ts =
         omega (arith, after-length p g c e (a .enough), tablets-room s rs ts ms c (a .numbers)) in
         record {
-          ring = ring-again rs ts (Calls.after p g c) relays-fit tablets-fit (r .relays) (r .tablets) relaysRoom tabletsRoom;
-          right = rw (fit-again rs ts (Calls.after p g c) relays-fit tablets-fit (r .relays) (r .tablets) relaysRoom tabletsRoom, ring-again rs ts (Calls.after p g c) relays-fit tablets-fit (r .relays) (r .tablets) relaysRoom tabletsRoom)
+          ring = ring-again rs ts (Calls.after p g c) (fits .relays) (fits .tablets) (r .relays) (r .tablets) relaysRoom tabletsRoom;
+          right = rw (fit-again rs ts (Calls.after p g c) (fits .relays) (fits .tablets) (r .relays) (r .tablets) relaysRoom tabletsRoom, ring-again rs ts (Calls.after p g c) (fits .relays) (fits .tablets) (r .relays) (r .tablets) relaysRoom tabletsRoom)
               (right-from p (Calls.after p g c) r);
-          relays = lengths-again rs ts (Calls.after p g c) relays-fit tablets-fit (r .relays) (r .tablets) relaysRoom tabletsRoom .0;
-          tablets = lengths-again rs ts (Calls.after p g c) relays-fit tablets-fit (r .relays) (r .tablets) relaysRoom tabletsRoom .1;
+          relays = lengths-again rs ts (Calls.after p g c) (fits .relays) (fits .tablets) (r .relays) (r .tablets) relaysRoom tabletsRoom .0;
+          tablets = lengths-again rs ts (Calls.after p g c) (fits .relays) (fits .tablets) (r .relays) (r .tablets) relaysRoom tabletsRoom .1;
         }
 
     pub call-stands : Stands s rs ts (outcomeOf s rs ts ms c .ring) (after s rs ts ms c .relays) (after s rs ts ms c .tablets)

@@ -13,7 +13,6 @@ use Rattle.ring.specs.Scheme as Scheme
 use Rattle.ring.specs.Scheme.{positions}
 use Rattle.ring.specs.Clockwise as Clockwise
 use Rattle.ring.specs.Clockwise.{sooner}
-use Rattle.ring.proofs.Tests.{and-right}
 use Rattle.rule.specs.Entry as Entry
 use Rattle.rule.specs.Entry.{has, besideOf}
 use Rattle.rule.specs.Order as Order
@@ -24,8 +23,8 @@ use Rattle.rule.proofs.Demand3.{Roomier}
 use Rattle.lent.specs.Table as Table
 use Rattle.lent.specs.Shape as Shape
 use Rattle.meaning.specs.Meaning as Meaning
-use Rattle.meaning.specs.Meaning.{ringOf, fitTables}
-use Rattle.runs.specs.Runs.{tablesRight}
+use Rattle.meaning.specs.Meaning.{ringOf, tablesRight}
+use Rattle.meaning.proofs.Fit.{right-ruled}
 
 pub empty-right : (s : ℕ) → tablesRight s [] [] ≡ true
 unfolding tablesRight Meaning.ringOf Meaning.places Meaning.fitTables Meaning.restUnused Shape.relaysUsed Shape.tabletsUsed Shape.used Shape.relayFits Shape.tabletFits Shape.all Table.relayPlaces Table.relayWhole Table.tabletPlaces Table.tabletWhole Entry.numbers Rule.right Rule.rising Rule.limitsFit Rule.isJust Rule.same Rule.placement Rule.seatAll
@@ -45,8 +44,5 @@ module _ (s : ℕ) (rs₁ ts₁ rs₂ ts₂ : List ℕ) where
 
   pub demand-3 : tablesRight s rs₁ ts₁ ≡ true → tablesRight s rs₂ ts₂ ≡ true → Roomier g₁ g₂ → (t : ℕ) → has (g₂ .tablets) t ≡ true
       → (besideOf (g₂ .tablets) t ≡ besideOf (g₁ .tablets) t) ⊎ (sooner (positions s) t (besideOf (g₂ .tablets) t) (besideOf (g₁ .tablets) t) ≡ true)
-  unfolding tablesRight
   demand-3 ok₁ ok₂ more t h =
-      Demand3.demand-3 (positions s) g₁ g₂
-      (and-right (fitTables rs₁ ts₁) (right (positions s) g₁) ok₁) (and-right (fitTables rs₂ ts₂) (right (positions s) g₂) ok₂)
-      more t h
+      Demand3.demand-3 (positions s) g₁ g₂ (right-ruled rs₁ ts₁ s ok₁) (right-ruled rs₂ ts₂ s ok₂) more t h

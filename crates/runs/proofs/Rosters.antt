@@ -22,7 +22,7 @@ use Rattle.meaning.proofs.Places.{length-places}
 use Rattle.layout.specs.Roster.{shapeRight, relayDistance, relayCount, tabletDistance, tabletCount, rosterScheme, block, rosterRing}
 use Rattle.roster.specs.Content.{numbered, ringRight, contentRight, tablesFit}
 use Rattle.roster.specs.Reading.{refusal, after, settled, taken}
-use Rattle.runs.specs.Runs.{tablesRight}
+use Rattle.meaning.specs.Meaning.{tablesRight}
 use Rattle.runs.proofs.Again.{ring-again, fit-again, lengths-again}
 use Rattle.runs.proofs.Kept.{Stands}
 

@@ -12,13 +12,12 @@ use lib.ListN.{length}
 use Rattle.ring.specs.Scheme.{positions}
 use Rattle.rule.specs.declared.Call.{Call}
 use Rattle.rule.specs.declared.Reply.{Reply}
-use Rattle.rule.specs.Rule as Rule
 use Rattle.rule.specs.Calls.{subject}
 use Rattle.rule.specs.Tally.{counted, Step, Station, step, run}
-use Rattle.meaning.specs.Meaning.{ringOf, lentOf}
+use Rattle.meaning.specs.Meaning.{ringOf, tablesRight, lentOf}
 use Rattle.tally.specs.Counted.{tallyOf, counts, tallied}
 use Rattle.look.specs.Promise.{outcomeOf, after}
-use Rattle.runs.specs.Runs.{Memory, called, calledAll, tablesRight}
+use Rattle.runs.specs.Runs.{Memory, called, calledAll}
 use Rattle.runs.proofs.Kept.{Stands, call-reply, call-stands}
 
 -- every call is about a 32-bit number

@@ -1,12 +1,8 @@
 -- Calls one after the other on the same lent numbers (document 01, "The rule of placement", "Sheet, balance, tally"): each finds what the one
 -- before it left. Assumes nothing.
-use mathlib.Core.Bool.{Bool, _&&_}
 use mathlib.Core.List.{List, [], _∷_}
 use Prim.Native.Nat.{ℕ}
-use Rattle.ring.specs.Scheme.{positions}
 use Rattle.rule.specs.declared.Call.{Call}
-use Rattle.rule.specs.Rule.{right}
-use Rattle.meaning.specs.Meaning.{ringOf, fitTables}
 use Rattle.tally.specs.Counted.{tallied}
 use Rattle.look.specs.Promise.{After, after}
 
@@ -26,7 +22,3 @@ called s m c =
 unfoldable pub calledAll : ℕ → Memory → List Call → Memory
 calledAll s m [] = m
 calledAll s m (c ∷ cs) = calledAll s (called s m c) cs
-
--- the tables are right
-unfoldable pub tablesRight : ℕ → List ℕ → List ℕ → Bool
-tablesRight s rs ts = fitTables rs ts && right (positions s) (ringOf rs ts)

@@ -5,7 +5,7 @@
 --   found-bounds     none of these: behind the tablets of all relays with lower numbers
 -- Assumes nothing.
 use mathlib.Core.Bool.{Bool, true, false, not, _&&_, and-false}
-use mathlib.Core.Path.{_≡_, sym, ap, _∙_}
+use mathlib.Core.Path.{_≡_, refl, sym, ap, _∙_}
 use mathlib.Core.List.{List, []}
 use Prim.Native.Nat.{ℕ, _+_, _≤_}
 use native.Mathlib.Omega.{arith}
@@ -14,18 +14,15 @@ use borrow.Author.Tests.{not-true, not-false}
 use Rattle.ring.specs.Scheme.{known, positions}
 use Rattle.ring.proofs.Tests.{split, true-false}
 use Rattle.rule.specs.Entry.{has}
-use Rattle.rule.specs.Rule as Rule
 use Rattle.rule.specs.Rule.{Ring}
 use Rattle.rule.specs.Refusals.{isDone, firstBar}
 use Rattle.rule.specs.Sheet.{Stretch, begins, sheetFrom, sheet, sheetFits, stretch}
 use Rattle.lent.specs.Table.{relayNumber}
-use Rattle.lent.specs.Placing.{right}
 use Rattle.survey.specs.declared.Survey.{Survey}
-use Rattle.meaning.specs.Meaning.{Words, relaysIn, tabletsIn, ringOf, fitTables, lentOf}
-use Rattle.meaning.proofs.Right.{right-meaning}
+use Rattle.meaning.specs.Meaning.{relaysIn, tabletsIn, ringOf, tablesRight, tablesBars, tablesRefusal, lentOf}
 use Rattle.look.specs.declared.Looked.{Looked}
-use Rattle.look.specs.Start.{checked, Start, Looks}
-use Rattle.look.proofs.Refusing.{start-ring, tables-right}
+use Rattle.look.specs.Start.{Start, Looks}
+use Rattle.look.proofs.Refusing.{start-ring}
 use Rattle.spot.specs.Spot.{Spot}
 use Rattle.loads.specs.Loads.{startAt}
 use Rattle.sheet.proofs.Lists.{sheet-length}
@@ -46,20 +43,22 @@ module _ (s : ℕ) (rs ts lent : List ℕ) (r : ℕ) where
   unfolding stretchOf stretch
   none-bounds e z = rw (e, stretch) (record { order = omega arith; inside = omega arith; start = z .0; len = omega arith })
 
-  -- the scheme is unknown, or the tables are not right
-  not-right : Words rs → Words ts → isDone (checked s rs ts) ≡ false → (known s && (fitTables rs ts && Rule.right (positions s) (ringOf rs ts))) ≡ false
-  unfolding checked firstBar isDone
-  not-right wr wt h =
-      rw (← right-meaning (positions s) rs ts wr wt)
-      (split (known s)
-      (λ k. split (right (positions s) rs ts) (λ t. absurd (true-false (rw (k, t) at h))) (λ t. rw (k, t)))
-      (λ k. rw k))
+  past-tables : fits ≡ ((known s && tablesRight s rs ts) && (begins (sheet (ringOf rs ts)) lent && has (ringOf rs ts .relays) r))
+  unfolding sheetFits lentOf tablesRight
+  past-tables = refl
 
-  pub look-bounds : {l : Looked} → Looks s rs ts l → {done : Bool} → done ≡ isDone (l .refusal) → Words rs → Words ts → not done ≡ true
+  -- the scheme is unknown, or the tables are not right
+  not-right : isDone (tablesRefusal s rs ts) ≡ false → (known s && tablesRight s rs ts) ≡ false
+  unfolding tablesRefusal tablesBars firstBar isDone
+  not-right h =
+      split (known s)
+      (λ k. split (tablesRight s rs ts) (λ t. absurd (true-false (rw (k, t) at h))) (λ t. rw (k, t)))
+      (λ k. rw k)
+
+  pub look-bounds : {l : Looked} → Looks s rs ts l → {done : Bool} → done ≡ isDone (l .refusal) → not done ≡ true
       → {from to : ℕ} → (from ≡ 0) × (to ≡ 0) → Bounds part (length lent) from to
-  unfolding sheetFits lentOf
-  look-bounds {l} k {done} e wr wt h z =
-      none-bounds (rw (not-right wr wt (ap isDone (sym (k .refusal)) ∙ sym e ∙ not-true _ h))) z
+  look-bounds {l} k {done} e h z =
+      none-bounds (past-tables ∙ rw (not-right (ap isDone (sym (k .refusal)) ∙ sym e ∙ not-true _ h))) z
 
   module _ {n m : ℕ} {v : Survey} (b : Start s rs ts n m v) where
     abbrev whole : List ℕ
@@ -67,8 +66,8 @@ module _ (s : ℕ) (rs ts lent : List ℕ) (r : ℕ) where
 
     -- past the look, the sheet and the relay are left
     fits-is : fits ≡ (begins (sheetFrom (relaysIn rs n) (tabletsIn ts m)) lent && has (relaysIn rs n) r)
-    unfolding sheetFits lentOf sheet
-    fits-is = rw (b .known, tables-right b) (ap (λ (g : Ring). begins (sheetFrom (g .relays) (g .tablets)) lent && has (g .relays) r) (start-ring b))
+    unfolding sheet
+    fits-is = past-tables ∙ rw (b .known, b .right) (ap (λ (g : Ring). begins (sheetFrom (g .relays) (g .tablets)) lent && has (g .relays) r) (start-ring b))
 
     other : begins (sheetFrom (relaysIn rs n) (tabletsIn ts m)) lent ≡ false → fits ≡ false
     other e = fits-is ∙ rw e

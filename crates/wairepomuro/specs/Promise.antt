@@ -1,28 +1,17 @@
 -- What the C interface promises: the promise of the call, with the reply as four numbers and the refusal's number as the answer (document 01,
 -- "Replies"). Assumes nothing.
-use mathlib.Core.Bool.{not, _&&_}
 use mathlib.Core.List.{List, [], _∷_}
 use mathlib.Core.Path.{_≡_}
 use Prim.Native.Nat.{ℕ}
-use Rattle.ring.specs.Scheme.{known, positions}
 use Rattle.rule.specs.declared.Call.{Call}
 use Rattle.rule.specs.declared.Reply.{Reply}
-use Rattle.rule.specs.declared.Refusal.{Refusal}
-use Rattle.rule.specs.declared.Refusal.the-variants.{SchemeUnknown, TablesNotRight}
-use Rattle.rule.specs.Refusals.{numberOf, bar, firstBar}
-use Rattle.rule.specs.Rule.{right}
+use Rattle.rule.specs.Refusals.{numberOf}
 use Rattle.rule.specs.Balance.{balance}
-use Rattle.meaning.specs.Meaning.{ringOf, fitTables}
 use Rattle.tally.specs.Counted.{tallied}
 use Rattle.look.specs.Promise.{after}
 use Rattle.sheet.specs.Promise as Sheet
 use Rattle.stretch.specs.Promise.{stretchOf}
 use Rattle.roster.specs.Reading as Roster
-
--- the refusal that every call gives for these tables, whatever else it is given
-unfoldable pub tablesRefusal : ℕ → List ℕ → List ℕ → Refusal
-tablesRefusal s rs ts =
-    firstBar (bar (not (known s)) SchemeUnknown ∷ bar (not (fitTables rs ts && right (positions s) (ringOf rs ts))) TablesNotRight ∷ [])
 
 -- in the order of the paper
 unfoldable pub replyNumbers : Reply → List ℕ

@@ -5,7 +5,8 @@ ghost use mathlib.Core.Path.{_≡_};
 ghost use Prim.Native.Nat.{ℕ};
 ghost use Rattle.rule.specs.declared.Call.the-variants.{Add, Remove, Set, Enrol, Withdraw, Find};
 ghost use Rattle.rule.specs.Refusals.{numberOf};
-ghost use Rattle.wairepomuro.specs.Promise.{tablesRefusal, replyNumbers, Serves, Shares, Lays, Spans, Reads};
+ghost use Rattle.meaning.specs.Meaning.{tablesRefusal};
+ghost use Rattle.wairepomuro.specs.Promise.{replyNumbers, Serves, Shares, Lays, Spans, Reads};
 
 // Are these right tables? Answers with the number of the refusal that every call would give for them: 0, 1 or 2.
 #[no_mangle]

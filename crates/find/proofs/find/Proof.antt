@@ -1,6 +1,5 @@
 -- `find::find` meets its contract. A look that is refused refuses the find, and so does a number that is zero or not there; past these the
 -- reply is the tablet's seat. Assumes nothing.
-use Rattle.look.proofs.Checked.{words-of}
 use Rattle.look.proofs.Ways.{look-start, look-answers}
 use Rattle.seat.proofs.Passing.{start-slotted}
 use Rattle.seat.proofs.Standing.{missing-find, seat-refused}
@@ -19,7 +18,7 @@ refused-requires : tie.Need-refused-requires
 refused-requires c κs = search needs
 
 returns : tie.Need-returns
-returns c = look-answers (c .before .before .before .look .ensures) (c .before .before .done .ensures) (words-of _ (c .before .before .before .before .before .shared-slice-known .given)) (words-of _ (c .before .before .before .before .shared-slice-known2 .given)) (c .before .if1 .taken) (c .refused .ensures) _
+returns c = look-answers (c .before .before .before .look .ensures) (c .before .before .done .ensures) (c .before .if1 .taken) (c .refused .ensures) _
 
 seat-of-requires : tie.Need-seat-of-requires
 seat-of-requires c κs = start-slotted (look-start (c .before .before .before .before .before .look .ensures) (c .before .before .before .before .done .ensures) (c .before .before .before .if1 .left))

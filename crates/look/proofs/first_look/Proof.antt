@@ -3,7 +3,7 @@ use mathlib.Core.Path.{refl}
 use borrow.Author.Tests.{not-true}
 use Rattle.rule.specs.declared.Refusal.the-variants.{SchemeUnknown, TablesNotRight}
 use Rattle.rule.specs.Refusals.{isDone}
-use Rattle.look.proofs.Checked.{unknown-refused, wrong-refused, barred-first, passed-first}
+use Rattle.look.proofs.Checked.{words-of, unknown-refused, wrong-refused, barred-first, passed-first}
 use borrow.Author.Needs.{needs}
 use Rattle.look.proofs.first_look.Statement.{statement}
 use Rattle.look.proofs.first_look.Tie as tie
@@ -28,7 +28,10 @@ returns-2 : tie.Need-returns-2
 unfolding isDone
 returns-2 c =
     let wrong = c .before .before .before .shapes .ensures .wrong (not-true _ (c .before .if2 .taken)) _ in
-    barred-first _ _ _ _ TablesNotRight refl (c .barred2 .ensures) (wrong-refused _ _ _ (c .before .before .before .before .before .scheme-known .ensures) (c .before .before .before .before .if1 .left) wrong)
+    let start = c .before .before .before .before .before .before in
+    barred-first _ _ _ _ TablesNotRight refl (c .barred2 .ensures)
+    (wrong-refused _ _ _ (words-of _ (start .before .shared-slice-known .given)) (words-of _ (start .shared-slice-known2 .given))
+    (c .before .before .before .before .before .scheme-known .ensures) (c .before .before .before .before .if1 .left) wrong)
 
 returns-3 : tie.Need-returns-3
 returns-3 c = passed-first _ _ _ (c .before .before .before .before .scheme-known .ensures) (c .before .before .before .if1 .left) (c .before .before .shapes .ensures) (c .if2 .left)

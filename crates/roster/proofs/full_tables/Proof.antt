@@ -2,7 +2,6 @@
 use mathlib.Core.Path.{sym, _∙_}
 use borrow.Author.Needs.{needs}
 use borrow.Author.Tests.{not-true}
-use Rattle.look.proofs.Checked.{words-of}
 use Rattle.look.proofs.Ways.{look-start}
 use Rattle.roster.proofs.Contents.{full-refused, full-relays, full-tablets}
 use Rattle.roster.proofs.full_tables.Statement.{statement}
@@ -15,7 +14,7 @@ done-requires : tie.Need-done-requires
 done-requires c κs = search needs
 
 returns : tie.Need-returns
-returns c = full-refused _ _ _ (c .before .before .before .before .before .pre) (words-of _ (c .before .before .before .before .shared-slice-known .given)) (words-of _ (c .before .before .before .shared-slice-known2 .given)) (c .before .before .look .ensures .refusal) (sym (c .before .done .ensures) ∙ not-true _ (c .if1 .taken))
+returns c = full-refused _ _ _ (c .before .before .before .before .before .pre) (c .before .before .look .ensures .refusal) (sym (c .before .done .ensures) ∙ not-true _ (c .if1 .taken))
 
 relay-places-requires : tie.Need-relay-places-requires
 relay-places-requires c κs = search needs

@@ -1,7 +1,6 @@
 -- `stretch::bounds` meets its contract. At each way out what was found says which case of the definition holds: the look is refused, the relay is
 -- not there, the first numbers are others, or none of these. Assumes nothing.
 use borrow.Author.Needs.{needs}
-use Rattle.look.proofs.Checked.{words-of}
 use Rattle.look.proofs.Ways.{look-start}
 use Rattle.look.proofs.Refusing.{start-rises}
 use Rattle.loads.proofs.Housing.{start-housed}
@@ -20,7 +19,7 @@ nothing-requires : tie.Need-nothing-requires
 nothing-requires c κs = search needs
 
 returns : tie.Need-returns
-returns c = look-bounds _ _ _ _ _ (c .before .before .before .look .ensures) (c .before .before .done .ensures) (words-of _ (c .before .before .before .before .before .before .shared-slice-known .given)) (words-of _ (c .before .before .before .before .before .shared-slice-known2 .given)) (c .before .if1 .taken) (c .nothing .ensures)
+returns c = look-bounds _ _ _ _ _ (c .before .before .before .look .ensures) (c .before .before .done .ensures) (c .before .if1 .taken) (c .nothing .ensures)
 
 relay-spot-requires : tie.Need-relay-spot-requires
 relay-spot-requires c κs = let s = start-rises (look-start (c .before .before .look .ensures) (c .before .done .ensures) (c .if1 .left)) in (s .relaysFit, s .relays)

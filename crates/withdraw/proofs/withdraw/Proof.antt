@@ -1,7 +1,6 @@
 -- `withdraw::withdraw` meets its contract. A look that is refused refuses the withdrawal, and so do a number that is zero or not there and a
 -- move list that is too short; past these those who fill the holes have sat down, and the tablet is taken out. Assumes nothing.
 use native.Mathlib.Omega.{arith}
-use Rattle.look.proofs.Checked.{words-of}
 use Rattle.look.proofs.Ways.{look-start, look-answers}
 use Rattle.seat.proofs.Passing.{start-slotted}
 use Rattle.seat.proofs.Standing.{missing-withdraw, seat-refused}
@@ -24,7 +23,7 @@ same-length : tie.Need-same-length
 same-length c = search needs
 
 returns : tie.Need-returns
-returns c = look-answers (c .before .before .before .look .ensures) (c .before .before .done .ensures) (words-of _ (c .before .before .before .before .before .before .before .shared-slice-known .given)) (words-of _ (c .before .before .before .before .before .before .slice-known .given)) (c .before .if1 .taken) (c .refused .ensures) _ _
+returns c = look-answers (c .before .before .before .look .ensures) (c .before .before .done .ensures) (c .before .if1 .taken) (c .refused .ensures) _ _
 
 seat-of-requires : tie.Need-seat-of-requires
 seat-of-requires c κs = start-slotted (look-start (c .before .before .before .before .before .before .look .ensures) (c .before .before .before .before .before .done .ensures) (c .before .before .before .before .if1 .left))

@@ -4,7 +4,6 @@ use mathlib.Core.Path.{refl, sym, ap, _∙_}
 use native.Mathlib.Omega.{arith}
 use borrow.Author.Tests.{not-true, not-false}
 use Rattle.rule.specs.Refusals.{isDone}
-use Rattle.look.proofs.Checked.{words-of}
 use Rattle.look.proofs.Refusing.{start-rises, look-refused}
 use Rattle.enrol.proofs.Planning.{test-false, test-true, refused-plan, barred-plan, shut-plan, turn-from, short-plan, whole-plan}
 use borrow.Author.Needs.{needs}
@@ -21,7 +20,7 @@ no-enrolment-requires : tie.Need-no-enrolment-requires
 no-enrolment-requires c κs = search needs
 
 returns : tie.Need-returns
-returns c = λ ms e. refused-plan _ _ (c .no-enrolment .ensures) (test-false _ (c .before .before .done .ensures) (c .before .if1 .taken)) (look-refused _ _ _ ms _ (words-of _ (c .before .before .before .before .before .shared-slice-known .given)) (words-of _ (c .before .before .before .before .shared-slice-known2 .given)) _ (sym (c .before .before .before .look .ensures .refusal)) (test-false _ (c .before .before .done .ensures) (c .before .if1 .taken)))
+returns c = λ ms e. refused-plan _ _ (c .no-enrolment .ensures) (test-false _ (c .before .before .done .ensures) (c .before .if1 .taken)) (look-refused _ _ _ ms _ _ (sym (c .before .before .before .look .ensures .refusal)) (test-false _ (c .before .before .done .ensures) (c .before .if1 .taken)))
 
 tablet-spot-requires : tie.Need-tablet-spot-requires
 tablet-spot-requires c κs =

@@ -2,7 +2,6 @@
 use mathlib.Core.Path.{refl, sym, _∙_}
 use borrow.Author.Tests.{not-true, not-false}
 use Rattle.ring.proofs.Tests.{true-false}
-use Rattle.look.proofs.Checked.{words-of}
 use Rattle.look.proofs.Refusing.{start-rises}
 use borrow.Author.Needs.{needs}
 use Rattle.relay_edit.proofs.found.find_relay.Statement.{statement}
@@ -21,8 +20,6 @@ returns : tie.Need-returns
 returns c =
     record {
       refusal = c .before .before .before .look .ensures .refusal;
-      relayWords = words-of _ (c .before .before .before .before .before .shared-slice-known .given);
-      tabletWords = words-of _ (c .before .before .before .before .shared-slice-known2 .given);
       stands = λ d. absurd (true-false (sym d ∙ sym (c .before .before .done .ensures) ∙ not-true _ (c .before .if1 .taken)));
     }
 
@@ -40,8 +37,6 @@ returns-2 : tie.Need-returns-2
 returns-2 c =
     record {
       refusal = c .before .before .before .before .before .before .look .ensures .refusal;
-      relayWords = words-of _ (c .before .before .before .before .before .before .before .before .shared-slice-known .given);
-      tabletWords = words-of _ (c .before .before .before .before .before .before .before .shared-slice-known2 .given);
       stands = λ d. record {
         survey = c .before .before .before .before .before .before .look .result .survey;
         keys = refl;
