@@ -2,11 +2,11 @@
 use mathlib.Core.List.{[], _∷_}
 use mathlib.Core.Path.{_≡_, refl}
 use Rattle.rule.specs.declared.Refusal.the-variants.{Done, NumberZero}
-use Rattle.rule.specs.Refusals.{refusedBy}
+use Rattle.rule.specs.Refusals.{replied, refusedBy}
 use Rattle.answer.specs.Text.{digitsBy, numberText, numberThen, replyText, moveText, moveTextAt, movesText, answerText}
 
 -- `0 10 1 1`, `m 5 10 20`
-pub one-move : answerText (record { refusal = Done; relay = 10; passed = 1; moves = 1 }) (5 ∷ 10 ∷ 20 ∷ 0 ∷ 0 ∷ 0 ∷ [])
+pub one-move : answerText (replied Done 10 1 1) (5 ∷ 10 ∷ 20 ∷ 0 ∷ 0 ∷ 0 ∷ [])
     ≡ (48 ∷ 32 ∷ 49 ∷ 48 ∷ 32 ∷ 49 ∷ 32 ∷ 49 ∷ 10 ∷ 109 ∷ 32 ∷ 53 ∷ 32 ∷ 49 ∷ 48 ∷ 32 ∷ 50 ∷ 48 ∷ 10 ∷ [])
 unfolding answerText replyText movesText moveTextAt moveText numberThen numberText digitsBy
 one-move = refl

@@ -80,7 +80,7 @@ pub fn answer(out: &mut [u8], r: rule::Reply, moves: &[u32]) -> usize
     let number = rule::number(refusal);
     let listed = least(r.moves as usize, moves.len() / 3);
     let relay = put_number(out, 0, number, b' ');
-    let passed = put_number(out, relay, r.relay, b' ');
+    let passed = put_number(out, relay, r.relay.0, b' ');
     let count = put_number(out, passed, r.passed, b' ');
     let first = put_number(out, count, r.moves, b'\n');
     put_moves(out, first, moves, listed)

@@ -17,6 +17,7 @@ use lib.Seq.{getD-set-same, getD-set-other}
 use Rattle.ring.specs.Scheme.{Positions}
 use Rattle.ring.proofs.Tests.{split, true-false}
 use Rattle.rule.specs.Entry.{Entry}
+use Rattle.rule.specs.Calls.{move}
 use Rattle.rule.specs.Walks.{greatest}
 use Rattle.rule.specs.Sweeps.{Turn, seats, turnAt, newcomer}
 use Rattle.rule.proofs.Turning.{turnAt-yes, turnAt-no, displacedBy}
@@ -134,7 +135,7 @@ module _ (x : ℕ) (rs ts : List ℕ) where
       let a = name-ext place place′ c hp in
       let b = from-ext seat seat′ c (λ i k. hs i (omega arith)) in
       let d = ap (relayNumber rs) (hs c (omega arith)) in
-      λ i. record { tablet = a i; old = b i; new = d i }
+      λ i. move (a i) (b i) (d i)
 
   chain-ext : (place place′ seat seat′ : List ℕ) (c : ℕ) → ((i : ℕ) → 0 < i → i < c → getD place′ i 0 ≡ getD place i 0) → ((i : ℕ) → i < c → getD seat′ i 0 ≡ getD seat i 0)
       → chainOf x rs ts place′ seat′ c ≡ chainOf x rs ts place seat c
@@ -157,7 +158,7 @@ module _ (x : ℕ) (rs ts : List ℕ) where
         let w : s .walker ≡ nameAt x ts place′ c = k .walker ∙ sym (name-ext place place′ c (λ z. hp c (omega arith))) in
         let f : s .from ≡ fromAt rs (set seat c r) c = k .from ∙ sym (from-ext seat (set seat c r) c same) in
         let e : relayNumber rs r ≡ relayNumber rs (getD (set seat c r) c 0) = ap (relayNumber rs) (sym (getD-set-same seat c r 0 (omega arith))) in
-        λ i. a i ++ (record { tablet = w i; old = f i; new = e i } ∷ [])
+        λ i. a i ++ (move (w i) (f i) (e i) ∷ [])
 
     pub keeps-end : seats s (relayNumber rs r) ≡ chainOf x rs ts place (set seat c r) (c + 1)
     keeps-end = sat place (λ i l. refl) ∙ ap (chainOf x rs ts place (set seat c r)) (sym (add-one c))

@@ -8,6 +8,7 @@ use lib.Dec.{eqb}
 use lib.ListN.{getD}
 use Rattle.ring.specs.Scheme.{Positions}
 use Rattle.rule.specs.declared.Move.{Move}
+use Rattle.rule.specs.Calls.{move}
 use Rattle.rule.specs.Sweeps.{seats, turn, newcomer}
 use Rattle.lent.specs.Table.{relayNumber, tabletNumber}
 use Rattle.lent.specs.Placing.{relayPositions}
@@ -30,7 +31,7 @@ fromAt rs seat (suc c) = relayNumber rs (getD seat c 0)
 
 -- the c-th link of the chain
 unfoldable pub linkAt : ℕ → List ℕ → List ℕ → List ℕ → List ℕ → ℕ → Move
-linkAt x rs ts place seat c = record { tablet = nameAt x ts place c; old = fromAt rs seat c; new = relayNumber rs (getD seat c 0) }
+linkAt x rs ts place seat c = move (nameAt x ts place c) (fromAt rs seat c) (relayNumber rs (getD seat c 0))
 
 -- the first c who sat down
 unfoldable pub chainOf : ℕ → List ℕ → List ℕ → List ℕ → List ℕ → ℕ → List Move

@@ -13,7 +13,7 @@ use Rattle.rule.specs.declared.Refusal.the-variants.{Done, SchemeUnknown, Table
 use Rattle.rule.specs.declared.Call.the-variants.{Enrol}
 use Rattle.rule.specs.declared.Move.{Move}
 use Rattle.rule.specs.Entry.{Entry, insert, put}
-use Rattle.rule.specs.Refusals.{isDone}
+use Rattle.rule.specs.Refusals.{isDone, replied}
 use Rattle.rule.specs.Calls.{refusal, accepted, moves}
 use Rattle.rule.specs.Calls as Calls
 use Rattle.rule.specs.Sweeps.{seated}
@@ -54,8 +54,8 @@ seated-insert : (ms : List Move) (low : ℕ) → Rising low (tabletsOf ms) → (
 unfolding seated
 seated-insert [] low up x c h es = refl
 seated-insert (m ∷ ms) low up x c h es =
-    ap (seated ms) (put-insert (m .tablet) (m .new) x c es (λ (e : m .tablet ≡ x). omega (arith, up .0)))
-    ∙ seated-insert ms (m .tablet) (up .1) x c (omega (arith, up .0)) (put (m .tablet) (m .new) es)
+    ap (seated ms) (put-insert (m .tablet .0) (m .new .0) x c es (λ (e : m .tablet .0 ≡ x). omega (arith, up .0)))
+    ∙ seated-insert ms (m .tablet .0) (up .1) x c (omega (arith, up .0)) (put (m .tablet .0) (m .new .0) es)
 
 module _ {s : ℕ} {rs ts ms : List ℕ} {t : TabletNumber} {p : Enrolment} (pl : Prepared s rs ts ms t p) (d : isDone (p .refusal) ≡ true) where
   abbrev w : Worked s rs ts ms t (p .m) (p .at) (p .chain)
@@ -74,7 +74,7 @@ module _ {s : ℕ} {rs ts ms : List ℕ} {t : TabletNumber} {p : Enrolment} (pl 
 
   pub enrolled-answers : {ts₁ ms₁ ts₂ : List ℕ} → OthersSeated (t .0) rs ts ms (p .chain .place) (p .chain .seat) ts₁ ms₁ (p .m) (p .chain .others) → (r i : ℕ) → i ≡ getD (p .chain .seat) 0 0 → r ≡ relayNumber rs i
       → WroteTablets ts₁ ts₂ (p .m + 1) (insert (t .0) r (tabletsIn ts₁ (p .m)))
-      → Answers (after s rs ts ms (Enrol t)) (record { refusal = Done; relay = r; passed = p .chain .steps; moves = p .chain .others }) rs ts₂ ms₁
+      → Answers (after s rs ts ms (Enrol t)) (replied Done r (p .chain .steps) (p .chain .others)) rs ts₂ ms₁
   unfolding accepted tabletTable
   enrolled-answers {ts₁} {ms₁} {ts₂} sd r i ei er wrote =
       let relay : r ≡ relayNumber rs (getD (p .chain .seat) 0 0) = er ∙ ap (relayNumber rs) ei in
@@ -85,7 +85,7 @@ module _ {s : ℕ} {rs ts ms : List ℕ} {t : TabletNumber} {p : Enrolment} (pl 
       let whole : WroteTablets ts ts₂ (p .m + 1) (Calls.after (positions s) (ringOf rs ts) (Enrol t) .tablets) =
       record { size = wrote .size ∙ sd .size; entries = entries; number = λ j a. wrote .number j a ∙ sd .numbers j; relay = λ j a. wrote .relay j a ∙ sd .relays j (omega arith) } in
       accepted-answers s rs ts ms (Enrol t) (sym (pl .refusal) ∙ done-is (p .refusal) d) _ rs ts₂ ms₁
-      (λ k. record { refusal = Done; relay = (relay ∙ sym (w .relay)) k; passed = sym (w .passed) k; moves = (sym (length-others (t .0) rs ts (p .chain .place) (p .chain .seat) (p .chain .others)) ∙ ap length (sym (w .moves))) k })
+      (λ k. replied Done ((relay ∙ sym (w .relay)) k) (sym (w .passed) k) ((sym (length-others (t .0) rs ts (p .chain .place) (p .chain .seat) (p .chain .others)) ∙ ap length (sym (w .moves))) k))
       (w .relays)
       (tablets-table whole (w .whole) (omega (arith, w .unused)) (zeros-behind (p .m + 1) (omega arith) (w .zeros)))
       (sd .list ∙ ap (λ (z : List Move). listed z ms) (sym (w .moves)))

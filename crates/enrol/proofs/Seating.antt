@@ -47,26 +47,26 @@ module _ (x : ℕ) (rs ts ms place seat : List ℕ) (m : ℕ) where
   seating-more {ts₁} {ms₁} {ts₂} {ms₂} c s h d =
       let one : Move = linkAt x rs ts place seat (suc c) in
       let e : othersOf x rs ts place seat (c + 1) ≡ othersOf x rs ts place seat c ++ (one ∷ []) = ap (othersOf x rs ts place seat) (add-one c) ∙ unfold othersOf in refl in
-      let t : tabletNumber ts₁ (getD place (c + 1) 0) ≡ one .tablet = s .numbers (getD place (c + 1) 0) ∙ name in
+      let t : tabletNumber ts₁ (getD place (c + 1) 0) ≡ one .tablet .0 = s .numbers (getD place (c + 1) 0) ∙ name in
       record {
         size = d .size ∙ s .size;
         numbers = λ i. d .numbers i ∙ s .numbers i;
         relays = λ i l. d .relays i l ∙ s .relays i l;
         entries = d .entries ∙ ap (λ (z : ℕ). put z (relayNumber rs (getD seat (c + 1) 0)) (tabletsIn ts₁ m)) t
-            ∙ ap (λ (z : ℕ). put (one .tablet) z (tabletsIn ts₁ m)) to ∙ ap (put (one .tablet) (one .new)) (s .entries)
+            ∙ ap (λ (z : ℕ). put (one .tablet .0) z (tabletsIn ts₁ m)) to ∙ ap (put (one .tablet .0) (one .new .0)) (s .entries)
             ∙ sym (ap (λ (l : List Move). seated l (tabletsIn ts m)) e ∙ seated-append (othersOf x rs ts place seat c) (one ∷ []) (tabletsIn ts m) ∙ unfold seated in refl);
         list = listed-more (othersOf x rs ts place seat c) ms one (s .list) (sym (length-others x rs ts place seat c)) h
             (d .list ∙ rw (t, from, to))
             ∙ ap (λ (l : List Move). listed l ms) (sym e);
       }
     where
-      name : tabletNumber ts (getD place (c + 1) 0) ≡ linkAt x rs ts place seat (suc c) .tablet
+      name : tabletNumber ts (getD place (c + 1) 0) ≡ linkAt x rs ts place seat (suc c) .tablet .0
       name = unfold linkAt nameAt in (ap (λ (z : ℕ). tabletNumber ts (getD place z 0)) (add-one c))
 
-      from : relayNumber rs (getD seat c 0) ≡ linkAt x rs ts place seat (suc c) .old
+      from : relayNumber rs (getD seat c 0) ≡ linkAt x rs ts place seat (suc c) .old .0
       from = unfold linkAt fromAt in refl
 
-      to : relayNumber rs (getD seat (c + 1) 0) ≡ linkAt x rs ts place seat (suc c) .new
+      to : relayNumber rs (getD seat (c + 1) 0) ≡ linkAt x rs ts place seat (suc c) .new .0
       to = unfold linkAt in (ap (λ (z : ℕ). relayNumber rs (getD seat z 0)) (add-one c))
 
 -- ---- what stays

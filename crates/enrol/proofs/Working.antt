@@ -22,7 +22,7 @@ use Rattle.rule.specs.Entry.{Entry, entry, numbers, has, insert, total, load, f
 use Rattle.rule.specs.Order.{order}
 use Rattle.rule.specs.Rule.{Ring, hasRoom}
 use Rattle.rule.specs.Refusals.{firstBar}
-use Rattle.rule.specs.Calls.{wrongNumbers, edited, moves, relayOf, passed}
+use Rattle.rule.specs.Calls.{move, wrongNumbers, edited, moves, relayOf, passed}
 use Rattle.rule.specs.Calls as Calls
 use Rattle.rule.specs.Sweeps.{seated, seats, turn, newcomer}
 use Rattle.rule.specs.Stability.{Rising, In}
@@ -72,7 +72,7 @@ total-least f b (suc n) i c =
 
 abbrev firstNew : List Move → ℕ
 firstNew [] = 0
-firstNew (m ∷ ms) = m .new
+firstNew (m ∷ ms) = m .new .0
 
 module _ (x : ℕ) (rs ts place seat : List ℕ) where
   pub chain-split : (c : ℕ) → chainOf x rs ts place seat (suc c) ≡ linkAt x rs ts place seat 0 ∷ othersOf x rs ts place seat c
@@ -240,7 +240,7 @@ module _ {s : ℕ} {rs ts : List ℕ} {n m : ℕ} {v : Survey} (b : Start s rs t
             stop-number : f .number ≡ relayNumber rs (slotRelay keys stop)
             stop-number = unfold roundNumber in (ap (λ (z : ℕ). relayNumber rs (slotRelay keys z)) at-stop)
 
-            the-chain : record { tablet = x; old = 0; new = chain .seat } ∷ chain .rest ≡ linkAt x rs ts place seat 0 ∷ othersOf x rs ts place seat c
+            the-chain : move x 0 (chain .seat) ∷ chain .rest ≡ linkAt x rs ts place seat 0 ∷ othersOf x rs ts place seat c
             the-chain =
                 sym (chain .is)
                 ∙ ap (λ (l : List Entry). seats (turn (tabletsIn ts m) (newcomer x) l) (f .number)) the-fulls

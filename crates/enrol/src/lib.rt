@@ -81,7 +81,7 @@ pub fn enrol(
     write::insert_tablet(tablets, p.m, p.at, t, relay);
     rule::Reply {
         refusal: rule::Refusal::Done,
-        relay: relay.0,
+        relay: relay,
         passed: c.steps as u32,
         moves: c.others as u32,
     }

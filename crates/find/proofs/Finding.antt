@@ -12,7 +12,7 @@ use Rattle.rule.specs.declared.Move.{Move}
 use Rattle.rule.specs.declared.Refusal.the-variants.{Done}
 use Rattle.rule.specs.declared.Call.the-variants.{Find}
 use Rattle.rule.specs.Rule.{Ring}
-use Rattle.rule.specs.Refusals.{isDone}
+use Rattle.rule.specs.Refusals.{isDone, replied}
 use Rattle.rule.specs.Calls as Calls
 use Rattle.rule.specs.Calls.{edited, moves, passed, relayOf, refusal, accepted}
 use Rattle.rule.proofs.Right.{Right}
@@ -50,7 +50,7 @@ module _ {s : ℕ} {rs ts : List ℕ} {n m : ℕ} {v : Survey} (b : Start s rs t
         all-passed s rs ts ms (Find t) b (ap isDone (missing-find b t (lentOf s rs ts ms) ∙ sym (f .refusal)) ∙ fine) (right .enough)
         (rw no-moves (omega arith))
 
-    pub find-found : Answers (after s rs ts ms (Find t)) (record { refusal = Done; relay = seat .relay .0; passed = seat .passed; moves = 0 }) rs ts ms
+    pub find-found : Answers (after s rs ts ms (Find t)) (replied Done (seat .relay .0) (seat .passed) 0) rs ts ms
     find-found =
         accepted-answers s rs ts ms (Find t) accepts _ rs ts ms
         (unfold accepted relayOf passed in (rw (found-relay b t (f .found fine), found-passed b t (f .found fine), no-moves)))

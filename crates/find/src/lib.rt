@@ -23,9 +23,10 @@ pub fn find(scheme: u32, relays: &[u32], tablets: &[u32], t: ring::TabletNumber)
     if !there {
         return rule::refused(wrong);
     }
+    let relay = seat.relay;
     rule::Reply {
         refusal: rule::Refusal::Done,
-        relay: seat.relay.0,
+        relay: relay,
         passed: seat.passed,
         moves: 0,
     }

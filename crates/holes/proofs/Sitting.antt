@@ -14,6 +14,7 @@ use lib.Seq.{take-suc, length-take-le}
 use Rattle.ring.proofs.Tests.{split}
 use Rattle.rule.specs.declared.Move.{Move}
 use Rattle.rule.specs.Entry.{Entry, delete, put}
+use Rattle.rule.specs.Calls.{move}
 use Rattle.rule.specs.Sweeps.{seated}
 use Rattle.rule.proofs.Puts.{delete-hit, delete-miss, put-hit, put-miss}
 use Rattle.lent.specs.Table.{tabletPlaces, tabletNumber, tabletRelay}
@@ -40,20 +41,20 @@ module _ (ts : List ℕ) where
   left-more r (k ∷ js) j = left-more (tabletRelay ts k) js j
 
   moves-more : (r : ℕ) (js : List ℕ) (j : ℕ)
-      → movesOf ts r (js ++ (j ∷ [])) ≡ movesOf ts r js ++ (record { tablet = tabletNumber ts j; old = tabletRelay ts j; new = leftBy ts r js } ∷ [])
+      → movesOf ts r (js ++ (j ∷ [])) ≡ movesOf ts r js ++ (move (tabletNumber ts j) (tabletRelay ts j) (leftBy ts r js) ∷ [])
   unfolding movesOf leftBy
   moves-more r [] j = refl
-  moves-more r (k ∷ js) j = ap (λ (l : List Move). record { tablet = tabletNumber ts k; old = tabletRelay ts k; new = r } ∷ l) (moves-more (tabletRelay ts k) js j)
+  moves-more r (k ∷ js) j = ap (λ (l : List Move). move (tabletNumber ts k) (tabletRelay ts k) r ∷ l) (moves-more (tabletRelay ts k) js j)
 
   pub length-moves : (r : ℕ) (js : List ℕ) → length (movesOf ts r js) ≡ length js
   unfolding movesOf
   length-moves r [] = refl
   length-moves r (j ∷ js) = ap suc (length-moves (tabletRelay ts j) js)
 
-seated-more : (ms : List Move) (m : Move) (es : List Entry) → seated (ms ++ (m ∷ [])) es ≡ put (m .tablet) (m .new) (seated ms es)
+seated-more : (ms : List Move) (m : Move) (es : List Entry) → seated (ms ++ (m ∷ [])) es ≡ put (m .tablet .0) (m .new .0) (seated ms es)
 unfolding seated
 seated-more [] m es = refl
-seated-more (x ∷ ms) m es = seated-more ms m (put (x .tablet) (x .new) es)
+seated-more (x ∷ ms) m es = seated-more ms m (put (x .tablet .0) (x .new .0) es)
 
 -- ---- the loop
 
@@ -104,7 +105,7 @@ module _ (ts ms : List ℕ) (m : ℕ) (places : List ℕ) (count r : ℕ) where
       J = getD places c 0
 
       abbrev one : Move
-      one = record { tablet = tabletNumber ts J; old = tabletRelay ts J; new = leftBy ts r (take c places) }
+      one = move (tabletNumber ts J) (tabletRelay ts J) (leftBy ts r (take c places))
 
       inside : c < length places
       inside = omega (arith, f .few, f .size)

@@ -5,6 +5,7 @@ use Prim.Native.Nat.{ℕ, _*_, _-_, _≤_, _<_}
 use lib.ListN.{length, getD}
 use Rattle.rule.specs.declared.Move.{Move}
 use Rattle.rule.specs.Entry.{delete}
+use Rattle.rule.specs.Calls.{move}
 use Rattle.rule.specs.Sweeps.{seated}
 use Rattle.lent.specs.Table.{mostRelays, tabletPlaces, tabletNumber, tabletRelay}
 use Rattle.meaning.specs.Meaning.{tabletsIn}
@@ -15,7 +16,7 @@ use Rattle.write.specs.Places.{TookOut}
 -- the moves of the tablets at these places: the first to relay r, each other to the relay that the one before leaves
 unfoldable pub movesOf : List ℕ → ℕ → List ℕ → List Move
 movesOf ts r [] = []
-movesOf ts r (j ∷ js) = record { tablet = tabletNumber ts j; old = tabletRelay ts j; new = r } ∷ movesOf ts (tabletRelay ts j) js
+movesOf ts r (j ∷ js) = move (tabletNumber ts j) (tabletRelay ts j) r ∷ movesOf ts (tabletRelay ts j) js
 
 -- m tablets by rising number, so many rising places among them, and a move list that is long enough
 pub record Fillers (ts ms : List ℕ) (m : ℕ) (places : List ℕ) (count : ℕ) : Type 0 where

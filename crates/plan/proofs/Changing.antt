@@ -16,7 +16,7 @@ use lib.ListN.{length, length-append}
 use Rattle.ring.proofs.Tests.{split}
 use Rattle.rule.specs.declared.Move.{Move}
 use Rattle.rule.specs.Entry.{Entry, entry, has, besideOf}
-use Rattle.rule.specs.Calls.{moved}
+use Rattle.rule.specs.Calls.{move, moved}
 use Rattle.lent.specs.Table.{tabletNumber, tabletRelay}
 use Rattle.meaning.specs.Meaning.{places}
 use Rattle.meaning.specs.Ascending.{Ascending}
@@ -36,7 +36,7 @@ module _ {A : Type 0} {o n b d : ℕ} (x y : A) (eb : o ≡ b) (ed : n ≡ d) wh
 
 module _ (f b d : ℕ → ℕ) where
   abbrev pub moveOf : ℕ → Move
-  moveOf j = record { tablet = f j; old = b j; new = d j }
+  moveOf j = move (f j) (b j) (d j)
 
   pub changes-same : (j : ℕ) → eqb (b j) (d j) ≡ true → changes f b d (j + 1) ≡ changes f b d j
   unfolding changes grown
@@ -100,7 +100,7 @@ unfolding moved
 moved-append old [] l = refl
 moved-append old (e ∷ k) l =
     split (has old (e .number) && not (eqb (besideOf old (e .number)) (e .beside)))
-    (λ s. rw (moved, s) (ap (λ (z : List Move). record { tablet = e .number; old = besideOf old (e .number); new = e .beside } ∷ z) (moved-append old k l)))
+    (λ s. rw (moved, s) (ap (λ (z : List Move). move (e .number) (besideOf old (e .number)) (e .beside) ∷ z) (moved-append old k l)))
     (λ s. rw (moved, s) (moved-append old k l))
 
 module _ (f b d : ℕ → ℕ) (m : ℕ) (a : Ascending f m) where
@@ -110,7 +110,7 @@ module _ (f b d : ℕ → ℕ) (m : ℕ) (a : Ascending f m) where
       split (eqb (b j) (d j))
       (λ s. rw (moved, has-place f b m (f j) j h refl, beside-places b a j h, s))
       (λ s. rw (moved, has-place f b m (f j) j h refl, beside-places b a j h, s)
-      (ap (λ (x : ℕ). record { tablet = f j; old = x; new = d j } ∷ []) (beside-places b a j h)))
+      (ap (λ (x : ℕ). move (f j) x (d j) ∷ []) (beside-places b a j h)))
 
   first-moved : (j : ℕ) → j ≤ m → moved (places f b m) (places f d j) ≡ changes f b d j
   unfolding places changes grown

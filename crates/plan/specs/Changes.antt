@@ -7,6 +7,7 @@ use lib.Dec.{eqb}
 use lib.ListN.{getD}
 use Rattle.ring.specs.Scheme.{Positions}
 use Rattle.rule.specs.declared.Move.{Move}
+use Rattle.rule.specs.Calls.{move}
 use Rattle.lent.specs.Table.{relayNumber, tabletNumber, tabletRelay}
 use Rattle.lent.specs.Placing.{relayFor}
 
@@ -18,7 +19,7 @@ grown false c m = c ++ (m ∷ [])
 -- of the first j tablets: f gives each its number, b its relay before, d its relay afterwards
 unfoldable pub changes : (ℕ → ℕ) → (ℕ → ℕ) → (ℕ → ℕ) → ℕ → List Move
 changes f b d zero = []
-changes f b d (suc j) = grown (eqb (b j) (d j)) (changes f b d j) (record { tablet = f j; old = b j; new = d j })
+changes f b d (suc j) = grown (eqb (b j) (d j)) (changes f b d j) (move (f j) (b j) (d j))
 
 -- tablet j's relay, where an array gives its place
 unfoldable pub newRelay : List ℕ → List ℕ → ℕ → ℕ

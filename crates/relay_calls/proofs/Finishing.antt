@@ -24,7 +24,7 @@ use Rattle.rule.specs.declared.Move.{Move}
 use Rattle.rule.specs.Entry.{Entry, numbers, total}
 use Rattle.rule.specs.Rule.{Ring}
 use Rattle.rule.specs.Rooms.{fill}
-use Rattle.rule.specs.Refusals.{isDone, refusedBy, firstBar}
+use Rattle.rule.specs.Refusals.{isDone, replied, refusedBy, firstBar}
 use Rattle.rule.specs.Calls.{edited, moved, moves, refusal, accepted}
 use Rattle.rule.specs.Calls as Calls
 use Rattle.rule.proofs.Accepted.{Edited, edited-tables, after-fill}
@@ -193,14 +193,9 @@ module _ {s : ℕ} {rs ts : List ℕ} {c : Call} {n m : ℕ} {own : List ℕ} {a
       unfolding lentOf
       passes = all-passed s rs ts ms c (o .start) (o .numbers ms) (enough-for (z .enough)) (omega (arith, ap length same-moves, z .fits))
 
-      the-reply : {k : ℕ} → k ≡ length (changesTo own relay ts m) → _≡_ {A = Reply} (record { refusal = Done; relay = x; passed = 0; moves = k }) (accepted p g c .reply)
+      the-reply : {k : ℕ} → k ≡ length (changesTo own relay ts m) → _≡_ {A = Reply} (replied Done x 0 k) (accepted p g c .reply)
       unfolding accepted
-      the-reply ek = λ i. record {
-        refusal = Done;
-        relay = sym (a .relay p g) i;
-        passed = sym (a .passed p g) i;
-        moves = (ek ∙ ap length (sym same-moves)) i;
-      }
+      the-reply ek = λ i. replied Done (sym (a .relay p g) i) (sym (a .passed p g) i) ((ek ∙ ap length (sym same-moves)) i)
 
       the-relays : {rs′ : List ℕ} → Replaced own rs rs′ → rs′ ≡ relayTable (length rs) (Calls.after p g c)
       unfolding relayTable Calls.after relayPlaces
@@ -218,6 +213,6 @@ module _ {s : ℕ} {rs ts : List ℕ} {c : Call} {n m : ℕ} {own : List ℕ} {a
           ∙ sym (after-tablets (z .enough)))
 
       pub plan-answers : {rs′ ts′ ms′ : List ℕ} {k : ℕ} {reply : Reply} → Carried own relay ts ts′ ms ms′ m k → Replaced own rs rs′
-          → reply ≡ record { refusal = Done; relay = x; passed = 0; moves = k } → Answers (after s rs ts ms c) reply rs′ ts′ ms′
+          → reply ≡ replied Done x 0 k → Answers (after s rs ts ms c) reply rs′ ts′ ms′
       plan-answers {rs′} {ts′} {ms′} {reply = reply} w v er =
           accepted-answers s rs ts ms c passes reply rs′ ts′ ms′ (er ∙ the-reply (w .count)) (the-relays v) (the-tablets w) (w .list ∙ ap (λ (l : List Move). listed l ms) (sym same-moves))

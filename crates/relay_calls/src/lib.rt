@@ -57,7 +57,7 @@ fn finish(
     let listed = count as u32;
     rule::Reply {
         refusal: rule::Refusal::Done,
-        relay: r.0,
+        relay: r,
         passed: 0,
         moves: listed,
     }

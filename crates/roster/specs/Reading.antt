@@ -8,7 +8,7 @@ use Rattle.ring.specs.Scheme.{known}
 use Rattle.rule.specs.declared.Refusal.{Refusal}
 use Rattle.rule.specs.declared.Refusal.the-variants.{Done, SchemeUnknown, RosterShapeWrong, RosterContentWrong, OutputUnfit}
 use Rattle.rule.specs.declared.Reply.{Reply}
-use Rattle.rule.specs.Refusals.{isDone, refusedBy, bar, firstBar}
+use Rattle.rule.specs.Refusals.{isDone, replied, refusedBy, bar, firstBar}
 use Rattle.write.specs.Tables.{relayTable, tabletTable}
 use Rattle.layout.specs.Roster.{shapeRight, relayCount, tabletCount, rosterScheme, rosterRing}
 use Rattle.roster.specs.declared.Reading.{Reading}
@@ -35,7 +35,7 @@ pub record After : Type 0 where
 unfoldable pub taken : List ℕ → List ℕ → List ℕ → After
 taken b rs ts =
     record {
-      reply = record { refusal = Done; relay = 0; passed = 0; moves = 0 };
+      reply = replied Done 0 0 0;
       scheme = rosterScheme b;
       relays = relayTable (length rs) (rosterRing b);
       tablets = tabletTable (length ts) (rosterRing b);

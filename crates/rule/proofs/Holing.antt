@@ -19,6 +19,7 @@ use Rattle.ring.proofs.Order.{sooner-key, key-apart}
 use Rattle.rule.specs.declared.Move.{Move}
 use Rattle.rule.specs.Entry.{Entry, entry, numbers, has, besideOf, insert, delete, put, load}
 use Rattle.rule.specs.Rule.{Ring}
+use Rattle.rule.specs.Calls.{move}
 use Rattle.rule.specs.Walks.{hadPassed}
 use Rattle.rule.specs.Sweeps.{seated, holes}
 use Rattle.rule.specs.Rooms.{held, fill}
@@ -37,7 +38,7 @@ use Rattle.rule.proofs.Demand3.{has-sits}
 -- ---- one step
 
 module _ (p : Positions) (r : ℕ) (e : Entry) (es : List Entry) where
-  pub holes-take : hadPassed p r e ≡ true → holes p r (e ∷ es) ≡ record { tablet = e .number; old = e .beside; new = r } ∷ holes p (e .beside) es
+  pub holes-take : hadPassed p r e ≡ true → holes p r (e ∷ es) ≡ move (e .number) (e .beside) r ∷ holes p (e .beside) es
   unfolding holes
   holes-take h = rw (h, holes)
 

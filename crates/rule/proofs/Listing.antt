@@ -17,7 +17,7 @@ use Rattle.ring.specs.Clockwise.{distance, sooner}
 use Rattle.ring.proofs.Tests.{split, true-false}
 use Rattle.rule.specs.declared.Move.{Move}
 use Rattle.rule.specs.Entry.{Entry, numbers, has, besideOf, insert, delete, put, first, upTo}
-use Rattle.rule.specs.Calls.{moved}
+use Rattle.rule.specs.Calls.{move, moved}
 use Rattle.rule.specs.Walks.{greatest, hadPassed}
 use Rattle.rule.specs.Sweeps.{seated, Turn, seats, turn, holes}
 use Rattle.rule.specs.Stability.{Rising, In, Sits}
@@ -33,18 +33,18 @@ use Rattle.rule.proofs.Holing.{holes-take, holes-pass}
 
 -- ---- move lists by rising tablet
 
-listed-above : (l : List Move) (low : ℕ) → Rising low (tabletsOf l) → (m : Move) → Listed m l → low < m .tablet
+listed-above : (l : List Move) (low : ℕ) → Rising low (tabletsOf l) → (m : Move) → Listed m l → low < m .tablet .0
 listed-above [] low up m i = absurd i
-listed-above (x ∷ l) low up m (inl u) = omega (arith, up .0, ap (λ (z : Move). z .tablet) u)
-listed-above (x ∷ l) low up m (inr i) = omega (arith, up .0, listed-above l (x .tablet) (up .1) m i)
+listed-above (x ∷ l) low up m (inl u) = omega (arith, up .0, ap (λ (z : Move). z .tablet .0) u)
+listed-above (x ∷ l) low up m (inr i) = omega (arith, up .0, listed-above l (x .tablet .0) (up .1) m i)
 
-listed-behind : (x : Move) (l : List Move) (m : Move) → Listed m (x ∷ l) → x .tablet < m .tablet → Listed m l
-listed-behind x l m (inl u) h = absurd (omega (arith, ap (λ (z : Move). z .tablet) u))
+listed-behind : (x : Move) (l : List Move) (m : Move) → Listed m (x ∷ l) → x .tablet .0 < m .tablet .0 → Listed m l
+listed-behind x l m (inl u) h = absurd (omega (arith, ap (λ (z : Move). z .tablet .0) u))
 listed-behind x l m (inr i) h = i
 
-listed-least : (x : Move) (l : List Move) → Rising (x .tablet) (tabletsOf l) → (m : Move) → Listed m (x ∷ l) → x .tablet ≤ m .tablet
-listed-least x l up m (inl u) = omega (arith, ap (λ (z : Move). z .tablet) u)
-listed-least x l up m (inr i) = omega (arith, listed-above l (x .tablet) up m i)
+listed-least : (x : Move) (l : List Move) → Rising (x .tablet .0) (tabletsOf l) → (m : Move) → Listed m (x ∷ l) → x .tablet .0 ≤ m .tablet .0
+listed-least x l up m (inl u) = omega (arith, ap (λ (z : Move). z .tablet .0) u)
+listed-least x l up m (inr i) = omega (arith, listed-above l (x .tablet .0) up m i)
 
 -- two lists of the same moves are one
 moves-ext : (k l : List Move) (low : ℕ) → Rising low (tabletsOf k) → Rising low (tabletsOf l) → ((m : Move) → Listed m k → Listed m l) → ((m : Move) → Listed m l → Listed m k) → k ≡ l
@@ -52,12 +52,12 @@ moves-ext [] [] low u v f g = refl
 moves-ext [] (y ∷ l) low u v f g = absurd (g y (inl refl))
 moves-ext (x ∷ k) [] low u v f g = absurd (f x (inl refl))
 moves-ext (x ∷ k) (y ∷ l) low u v f g =
-    let a : y .tablet ≤ x .tablet = listed-least y l (v .1) x (f x (inl refl)) in
-    let b : x .tablet ≤ y .tablet = listed-least x k (u .1) y (g y (inl refl)) in
-    let e : x ≡ y = ⊎-elim (λ s. s) (λ i. absurd (omega (arith, listed-above l (y .tablet) (v .1) x i))) (f x (inl refl)) in
-    let ih : k ≡ l = moves-ext k l (x .tablet) (u .1) (rising-low (tabletsOf l) (y .tablet) (x .tablet) b (v .1))
-    (λ m i. listed-behind y l m (f m (inr i)) (omega (arith, listed-above k (x .tablet) (u .1) m i)))
-    (λ m i. listed-behind x k m (g m (inr i)) (omega (arith, listed-above l (y .tablet) (v .1) m i))) in
+    let a : y .tablet .0 ≤ x .tablet .0 = listed-least y l (v .1) x (f x (inl refl)) in
+    let b : x .tablet .0 ≤ y .tablet .0 = listed-least x k (u .1) y (g y (inl refl)) in
+    let e : x ≡ y = ⊎-elim (λ s. s) (λ i. absurd (omega (arith, listed-above l (y .tablet .0) (v .1) x i))) (f x (inl refl)) in
+    let ih : k ≡ l = moves-ext k l (x .tablet .0) (u .1) (rising-low (tabletsOf l) (y .tablet .0) (x .tablet .0) b (v .1))
+    (λ m i. listed-behind y l m (f m (inr i)) (omega (arith, listed-above k (x .tablet .0) (u .1) m i)))
+    (λ m i. listed-behind x k m (g m (inr i)) (omega (arith, listed-above l (y .tablet .0) (v .1) m i))) in
     λ i. e i ∷ ih i
 
 -- ---- sitting down
@@ -93,44 +93,44 @@ put-other n v (e ∷ es) m w =
 pub numbers-seated : (ms : List Move) (es : List Entry) → numbers (seated ms es) ≡ numbers es
 unfolding seated
 numbers-seated [] es = refl
-numbers-seated (m ∷ ms) es = numbers-seated ms (put (m .tablet) (m .new) es) ∙ numbers-put (m .tablet) (m .new) es
+numbers-seated (m ∷ ms) es = numbers-seated ms (put (m .tablet .0) (m .new .0) es) ∙ numbers-put (m .tablet .0) (m .new .0) es
 
 -- who sits at the end is one who sat down, or sat there before
 sits-seated : (ms : List Move) (es : List Entry) → Rising 0 (numbers es) → (n v : ℕ) → Sits (seated ms es) n v
-    → ((m : Move) × Listed m ms × (m .tablet ≡ n) × (m .new ≡ v)) ⊎ Sits es n v
+    → ((m : Move) × Listed m ms × (m .tablet .0 ≡ n) × (m .new .0 ≡ v)) ⊎ Sits es n v
 unfolding seated
 sits-seated [] es up n v i = inr i
 sits-seated (m ∷ ms) es up n v i =
     ⊎-elim
     (λ u. inl (u .0, inr (u .1), u .2, u .3))
-    (λ j. ⊎-elim (λ u. inl (m, inl refl, sym (u .0), sym (u .1))) (λ u. inr (u .0)) (sits-put (m .tablet) (m .new) es 0 up n v j))
-    (sits-seated ms (put (m .tablet) (m .new) es) (rw (numbers-put (m .tablet) (m .new) es) up) n v i)
+    (λ j. ⊎-elim (λ u. inl (m, inl refl, sym (u .0), sym (u .1))) (λ u. inr (u .0)) (sits-put (m .tablet .0) (m .new .0) es 0 up n v j))
+    (sits-seated ms (put (m .tablet .0) (m .new .0) es) (rw (numbers-put (m .tablet .0) (m .new .0) es) up) n v i)
 
 -- who is not in the list stays
 pub seated-other : (ms : List Move) (low : ℕ) → Rising low (tabletsOf ms) → (es : List Entry) (n v : ℕ) → n ≤ low → Sits es n v → Sits (seated ms es) n v
 unfolding seated
 seated-other [] low up es n v h i = i
 seated-other (m ∷ ms) low up es n v h i =
-    seated-other ms (m .tablet) (up .1) (put (m .tablet) (m .new) es) n v (omega (arith, up .0)) (put-other (m .tablet) (m .new) es n v i (λ x. omega (arith, up .0)))
+    seated-other ms (m .tablet .0) (up .1) (put (m .tablet .0) (m .new .0) es) n v (omega (arith, up .0)) (put-other (m .tablet .0) (m .new .0) es n v i (λ x. omega (arith, up .0)))
 
-seated-sits : (ms : List Move) (low : ℕ) → Rising low (tabletsOf ms) → (es : List Entry) (m : Move) → Listed m ms → In (m .tablet) (numbers es) → Sits (seated ms es) (m .tablet) (m .new)
+seated-sits : (ms : List Move) (low : ℕ) → Rising low (tabletsOf ms) → (es : List Entry) (m : Move) → Listed m ms → In (m .tablet .0) (numbers es) → Sits (seated ms es) (m .tablet .0) (m .new .0)
 unfolding seated
 seated-sits [] low up es m i j = absurd i
 seated-sits (x ∷ ms) low up es m (inl u) j =
-    subst (λ (z : Move). Sits (seated ms (put (x .tablet) (x .new) es)) (z .tablet) (z .new)) (sym u)
-    (seated-other ms (x .tablet) (up .1) (put (x .tablet) (x .new) es) (x .tablet) (x .new) (omega arith)
-    (put-sits (x .tablet) (x .new) es (subst (λ (z : Move). In (z .tablet) (numbers es)) u j)))
+    subst (λ (z : Move). Sits (seated ms (put (x .tablet .0) (x .new .0) es)) (z .tablet .0) (z .new .0)) (sym u)
+    (seated-other ms (x .tablet .0) (up .1) (put (x .tablet .0) (x .new .0) es) (x .tablet .0) (x .new .0) (omega arith)
+    (put-sits (x .tablet .0) (x .new .0) es (subst (λ (z : Move). In (z .tablet .0) (numbers es)) u j)))
 seated-sits (x ∷ ms) low up es m (inr i) j =
-    seated-sits ms (x .tablet) (up .1) (put (x .tablet) (x .new) es) m i (rw (numbers-put (x .tablet) (x .new) es) j)
+    seated-sits ms (x .tablet .0) (up .1) (put (x .tablet .0) (x .new .0) es) m i (rw (numbers-put (x .tablet .0) (x .new .0) es) j)
 
 -- ---- who sits down is who moved
 
 -- tablets of an old table and of the one that is changed, each to another relay than its own
 pub record Honest (old es : List Entry) (m : Move) : Type 0 where
-  pub was : has old (m .tablet) ≡ true
-  pub from : besideOf old (m .tablet) ≡ m .old
-  pub there : In (m .tablet) (numbers es)
-  pub other : m .old ≡ m .new → ⊥
+  pub was : has old (m .tablet .0) ≡ true
+  pub from : besideOf old (m .tablet .0) ≡ m .old .0
+  pub there : In (m .tablet .0) (numbers es)
+  pub other : m .old .0 ≡ m .new .0 → ⊥
 
 pub moved-seated : (old es : List Entry) (ms : List Move) → Rising 0 (numbers es) → Rising 0 (tabletsOf ms)
     → ((m : Move) → Listed m ms → Honest old es m) → ((n v : ℕ) → Sits es n v → has old n ≡ true → besideOf old n ≡ v) → moved old (seated ms es) ≡ ms
@@ -142,20 +142,20 @@ moved-seated old es ms up ups honest same =
         let v : Moves old (seated ms es) m = moved-is old (seated ms es) m i in
         ⊎-elim
         (λ u. subst (λ (z : Move). Listed z ms) (is-it m v (u .0) (u .1) (u .2) (u .3)) (u .1))
-        (λ j. absurd (v .other (v .from ∙ same (m .tablet) (m .new) j (v .was))))
-        (sits-seated ms es up (m .tablet) (m .new) (v .to))
+        (λ j. absurd (v .other (v .from ∙ same (m .tablet .0) (m .new .0) j (v .was))))
+        (sits-seated ms es up (m .tablet .0) (m .new .0) (v .to))
       where
-        is-it : (m : Move) → Moves old (seated ms es) m → (s : Move) → Listed s ms → s .tablet ≡ m .tablet → s .new ≡ m .new → s ≡ m
+        is-it : (m : Move) → Moves old (seated ms es) m → (s : Move) → Listed s ms → s .tablet .0 ≡ m .tablet .0 → s .new .0 ≡ m .new .0 → s ≡ m
         is-it m v s i a b =
-            let o : s .old ≡ m .old = sym (honest s i .from) ∙ ap (besideOf old) a ∙ sym (v .from) in
-            λ k. record { tablet = a k; old = o k; new = b k }
+            let o : s .old .0 ≡ m .old .0 = sym (honest s i .from) ∙ ap (besideOf old) a ∙ sym (v .from) in
+            λ k. move (a k) (o k) (b k)
 
     from : (m : Move) → Listed m ms → Listed m (moved old (seated ms es))
     from m i =
         let h : Honest old es m = honest m i in
-        let l : Listed (record { tablet = m .tablet; old = besideOf old (m .tablet); new = m .new }) (moved old (seated ms es)) =
-        moved-all old (seated ms es) (m .tablet) (m .new) (h .was) (seated-sits ms 0 ups es m i (h .there)) (λ e. h .other (sym (h .from) ∙ e)) in
-        subst (λ (z : Move). Listed z (moved old (seated ms es))) (λ k. record { tablet = m .tablet; old = h .from k; new = m .new }) l
+        let l : Listed (move (m .tablet .0) (besideOf old (m .tablet .0)) (m .new .0)) (moved old (seated ms es)) =
+        moved-all old (seated ms es) (m .tablet .0) (m .new .0) (h .was) (seated-sits ms 0 ups es m i (h .there)) (λ e. h .other (sym (h .from) ∙ e)) in
+        subst (λ (z : Move). Listed z (moved old (seated ms es))) (λ k. move (m .tablet .0) (h .from k) (m .new .0)) l
 
 -- ---- the chain of an enrolment
 
@@ -164,9 +164,9 @@ rising-snoc : (l : List ℕ) (low w n : ℕ) → Rising low (l ++ (w ∷ [])) �
 rising-snoc [] low w n up h = (up .0, (h, tt))
 rising-snoc (x ∷ l) low w n up h = (up .0, rising-snoc l x w n (up .1) h)
 
-tablets-more : (l : List Move) (m : Move) → tabletsOf (l ++ (m ∷ [])) ≡ tabletsOf l ++ (m .tablet ∷ [])
+tablets-more : (l : List Move) (m : Move) → tabletsOf (l ++ (m ∷ [])) ≡ tabletsOf l ++ (m .tablet .0 ∷ [])
 tablets-more [] m = refl
-tablets-more (x ∷ l) m = ap (λ (k : List ℕ). x .tablet ∷ k) (tablets-more l m)
+tablets-more (x ∷ l) m = ap (λ (k : List ℕ). x .tablet .0 ∷ k) (tablets-more l m)
 
 listed-more : (l : List Move) (m x : Move) → Listed x (l ++ (m ∷ [])) → Listed x l ⊎ (x ≡ m)
 listed-more [] m x (inl u) = inr u
@@ -178,10 +178,10 @@ listed-more (y ∷ l) m x (inr i) = ⊎-elim (λ j. inl (inr j)) (λ u. inr u) (
 pub record Chain (ts : List Entry) (x : ℕ) (ms : List Move) : Type 0 where
   pub seat : ℕ
   pub rest : List Move
-  pub is : ms ≡ record { tablet = x; old = 0; new = seat } ∷ rest
+  pub is : ms ≡ move x 0 seat ∷ rest
   pub up : Rising x (tabletsOf rest)
-  pub sat : (m : Move) → Listed m rest → Sits ts (m .tablet) (m .old)
-  pub other : (m : Move) → Listed m rest → m .old ≡ m .new → ⊥
+  pub sat : (m : Move) → Listed m rest → Sits ts (m .tablet .0) (m .old .0)
+  pub other : (m : Move) → Listed m rest → m .old .0 ≡ m .new .0 → ⊥
 
 module _ (ts : List Entry) (x : ℕ) where
   -- while the newcomer itself walks, and while another does
@@ -202,11 +202,11 @@ module _ (ts : List Entry) (x : ℕ) where
   chain-more s ahead l c i =
       record {
         seat = l .before .seat;
-        rest = l .before .rest ++ (record { tablet = s .walker; old = s .from; new = c .number } ∷ []);
-        is = ap (λ (k : List Move). k ++ (record { tablet = s .walker; old = s .from; new = c .number } ∷ [])) (l .before .is);
-        up = rw (tablets-more (l .before .rest) (record { tablet = s .walker; old = s .from; new = c .number })) (l .up);
-        sat = λ m j. ⊎-elim (λ k. l .before .sat m k) (λ u. subst (λ (z : Move). Sits ts (z .tablet) (z .old)) (sym u) (l .sat)) (listed-more (l .before .rest) _ m j);
-        other = λ m j. ⊎-elim (λ k. l .before .other m k) (λ u. subst (λ (z : Move). z .old ≡ z .new → ⊥) (sym u) (l .other c i)) (listed-more (l .before .rest) _ m j);
+        rest = l .before .rest ++ (move (s .walker) (s .from) (c .number) ∷ []);
+        is = ap (λ (k : List Move). k ++ (move (s .walker) (s .from) (c .number) ∷ [])) (l .before .is);
+        up = rw (tablets-more (l .before .rest) (move (s .walker) (s .from) (c .number))) (l .up);
+        sat = λ m j. ⊎-elim (λ k. l .before .sat m k) (λ u. subst (λ (z : Move). Sits ts (z .tablet .0) (z .old .0)) (sym u) (l .sat)) (listed-more (l .before .rest) _ m j);
+        other = λ m j. ⊎-elim (λ k. l .before .other m k) (λ u. subst (λ (z : Move). z .old .0 ≡ z .new .0 → ⊥) (sym u) (l .other c i)) (listed-more (l .before .rest) _ m j);
       }
 
   chain-first : (s : Turn) → Fresh s → (r : ℕ) → Chain ts x (seats s r)
@@ -239,7 +239,7 @@ module _ (ts : List Entry) (x : ℕ) where
       rises : (k : Fresh s ⊎ Linked s (c ∷ cs)) → Rising x (tabletsOf (chain-end s (c ∷ cs) k c (inl refl) .rest) ++ (greatest ts (c .number) ∷ []))
       rises (inl f) = (omega (arith, f .walker), tt)
       rises (inr l) =
-          rw (tablets-more (l .before .rest) (record { tablet = s .walker; old = s .from; new = c .number }))
+          rw (tablets-more (l .before .rest) (move (s .walker) (s .from) (c .number)))
           (rising-snoc (tabletsOf (l .before .rest)) x (s .walker) (greatest ts (c .number)) (l .up) h)
 
   further : (s : Turn) (c : Entry) (cs : List Entry) → Fresh s ⊎ Linked s (c ∷ cs) → Fresh s ⊎ Linked s cs
@@ -279,12 +279,12 @@ module _ (ts : List Entry) (up : Rising 0 (numbers ts)) (x : ℕ) (some-number :
       ∙ moved-seated ts (insert x (c .seat) ts) (c .rest) (rising-insert x (c .seat) ts 0 some-number up new)
       (rising-low (tabletsOf (c .rest)) x 0 (omega arith) (c .up))
       (λ m i.
-      let s : Sits ts (m .tablet) (m .old) = c .sat m i in
-      let n : In (m .tablet) (numbers ts) = sits-in ts (m .tablet) (m .old) s in
+      let s : Sits ts (m .tablet .0) (m .old .0) = c .sat m i in
+      let n : In (m .tablet .0) (numbers ts) = sits-in ts (m .tablet .0) (m .old .0) s in
       record {
-        was = in-has ts (m .tablet) n;
-        from = sits-beside ts 0 (m .tablet) (m .old) up s;
-        there = insert-in x (c .seat) ts (m .tablet) (inr n);
+        was = in-has ts (m .tablet .0) n;
+        from = sits-beside ts 0 (m .tablet .0) (m .old .0) up s;
+        there = insert-in x (c .seat) ts (m .tablet .0) (inr n);
         other = c .other m i;
       })
       (λ n v j h. ⊎-elim
@@ -307,17 +307,17 @@ module _ (p : Positions) where
   unfolding sooner
   not-own t r = rw (le-ltb (distance p t r) (distance p t r) (omega arith), le-ltb r r (omega arith)) (and-false (eqb (distance p t r) (distance p t r)))
 
-  holes-sat : (l : List Entry) (r : ℕ) (m : Move) → Listed m (holes p r l) → Sits l (m .tablet) (m .old) × (m .old ≡ m .new → ⊥)
+  holes-sat : (l : List Entry) (r : ℕ) (m : Move) → Listed m (holes p r l) → Sits l (m .tablet .0) (m .old .0) × (m .old .0 ≡ m .new .0 → ⊥)
   holes-sat [] r m i = absurd (unfold holes in i)
   holes-sat (e ∷ l) r m i =
       split (hadPassed p r e)
       (λ h. ⊎-elim
-      (λ u. subst (λ (z : Move). Sits (e ∷ l) (z .tablet) (z .old) × (z .old ≡ z .new → ⊥)) (sym u) (inl (refl, refl), λ x. other h x))
+      (λ u. subst (λ (z : Move). Sits (e ∷ l) (z .tablet .0) (z .old .0) × (z .old .0 ≡ z .new .0 → ⊥)) (sym u) (inl (refl, refl), λ x. other h x))
       (λ j. deeper (holes-sat l (e .beside) m j))
       (subst (λ (k : List Move). Listed m k) (holes-take p r e l h) i))
       (λ h. deeper (holes-sat l r m (subst (λ (k : List Move). Listed m k) (holes-pass p r e l h) i)))
     where
-      deeper : Sits l (m .tablet) (m .old) × (m .old ≡ m .new → ⊥) → Sits (e ∷ l) (m .tablet) (m .old) × (m .old ≡ m .new → ⊥)
+      deeper : Sits l (m .tablet .0) (m .old .0) × (m .old .0 ≡ m .new .0 → ⊥) → Sits (e ∷ l) (m .tablet .0) (m .old .0) × (m .old .0 ≡ m .new .0 → ⊥)
       deeper v = (inr (v .0), v .1)
 
       other : hadPassed p r e ≡ true → e .beside ≡ r → ⊥
@@ -328,12 +328,12 @@ module _ (p : Positions) where
       let up′ : Rising 0 (numbers (delete x ts)) = rising-delete x ts 0 up in
       moved-seated ts (delete x ts) (holes p r (delete x ts)) up′ (holes-rising (delete x ts) 0 r up′)
       (λ m i.
-      let s : Sits (delete x ts) (m .tablet) (m .old) × (m .old ≡ m .new → ⊥) = holes-sat (delete x ts) r m i in
-      let j : Sits ts (m .tablet) (m .old) = sits-delete x ts (m .tablet) (m .old) (s .0) in
+      let s : Sits (delete x ts) (m .tablet .0) (m .old .0) × (m .old .0 ≡ m .new .0 → ⊥) = holes-sat (delete x ts) r m i in
+      let j : Sits ts (m .tablet .0) (m .old .0) = sits-delete x ts (m .tablet .0) (m .old .0) (s .0) in
       record {
-        was = in-has ts (m .tablet) (sits-in ts (m .tablet) (m .old) j);
-        from = sits-beside ts 0 (m .tablet) (m .old) up j;
-        there = sits-in (delete x ts) (m .tablet) (m .old) (s .0);
+        was = in-has ts (m .tablet .0) (sits-in ts (m .tablet .0) (m .old .0) j);
+        from = sits-beside ts 0 (m .tablet .0) (m .old .0) up j;
+        there = sits-in (delete x ts) (m .tablet .0) (m .old .0) (s .0);
         other = s .1;
       })
       (λ n v j h. sits-beside ts 0 n v up (sits-delete x ts n v j))

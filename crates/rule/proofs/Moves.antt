@@ -19,7 +19,7 @@ use Rattle.ring.proofs.Tests.{split, and-left, and-right, true-false}
 use Rattle.rule.specs.declared.Move.{Move}
 use Rattle.rule.specs.Entry.{Entry, numbers, has, besideOf}
 use Rattle.rule.specs.Order.{order, home}
-use Rattle.rule.specs.Calls.{moved}
+use Rattle.rule.specs.Calls.{move, moved}
 use Rattle.rule.specs.Stability.{Rising, Sits}
 use Rattle.rule.proofs.Sets.{rising-low}
 use Rattle.rule.proofs.Orders.{Among, Small, first-least, in-order, order-sorted}
@@ -31,20 +31,20 @@ Listed m (x ∷ xs) = (m ≡ x) ⊎ Listed m xs
 
 abbrev pub tabletsOf : List Move → List ℕ
 tabletsOf [] = []
-tabletsOf (m ∷ ms) = m .tablet ∷ tabletsOf ms
+tabletsOf (m ∷ ms) = m .tablet .0 ∷ tabletsOf ms
 
 -- a tablet of both tables moved from the one relay to the other
 pub record Moves (old now-there : List Entry) (m : Move) : Type 0 where
-  pub was : has old (m .tablet) ≡ true
-  pub from : m .old ≡ besideOf old (m .tablet)
-  pub to : Sits now-there (m .tablet) (m .new)
-  pub other : m .old ≡ m .new → ⊥
+  pub was : has old (m .tablet .0) ≡ true
+  pub from : m .old .0 ≡ besideOf old (m .tablet .0)
+  pub to : Sits now-there (m .tablet .0) (m .new .0)
+  pub other : m .old .0 ≡ m .new .0 → ⊥
 
 abbrev moves? : List Entry → Entry → Bool
 moves? old e = has old (e .number) && not (eqb (besideOf old (e .number)) (e .beside))
 
 abbrev one : List Entry → Entry → Move
-one old e = record { tablet = e .number; old = besideOf old (e .number); new = e .beside }
+one old e = move (e .number) (besideOf old (e .number)) (e .beside)
 
 differ : (a b : ℕ) → not (eqb a b) ≡ true → a ≡ b → ⊥
 differ a b h e = split (eqb a b) (λ s. true-false (sym (rw s at h))) (λ s. eqb-false a b s e)
@@ -70,7 +70,7 @@ moved-is old (e ∷ es) m =
     (λ s. rw (s, moved) (λ i. further old e es m (moved-is old es m i)))
 
 pub moved-all : (old es : List Entry) (n v : ℕ) → has old n ≡ true → Sits es n v → (besideOf old n ≡ v → ⊥)
-    → Listed (record { tablet = n; old = besideOf old n; new = v }) (moved old es)
+    → Listed (move n (besideOf old n) v) (moved old es)
 unfolding moved
 moved-all old [] n v h i d = absurd i
 moved-all old (e ∷ es) n v h i d =
@@ -78,8 +78,8 @@ moved-all old (e ∷ es) n v h i d =
     (λ s. rw (s, moved) (⊎-elim (λ u. inl (here u)) (λ j. inr (moved-all old es n v h j d)) i))
     (λ s. rw (s, moved) (⊎-elim (λ u. absurd (true-false (sym (yes u) ∙ s))) (λ j. moved-all old es n v h j d) i))
   where
-    here : (e .number ≡ n) × (e .beside ≡ v) → _≡_ {A = Move} (record { tablet = n; old = besideOf old n; new = v }) (one old e)
-    here u = λ i. record { tablet = sym (u .0) i; old = besideOf old (sym (u .0) i); new = sym (u .1) i }
+    here : (e .number ≡ n) × (e .beside ≡ v) → _≡_ {A = Move} (move n (besideOf old n) v) (one old e)
+    here u = λ i. move (sym (u .0) i) (besideOf old (sym (u .0) i)) (sym (u .1) i)
 
     yes : (e .number ≡ n) × (e .beside ≡ v) → moves? old e ≡ true
     yes u = rw (u .0, u .1, h, ne-eqb (besideOf old n) v d)

@@ -25,11 +25,11 @@ use Rattle.rule.proofs.Own.{edit-is, told-is, own-entry}
 
 -- m is of a tablet of both rings, from its relay on the one to another on the other
 pub record Moved (g h : Ring) (m : Move) : Type 0 where
-  pub before : has (g .tablets) (m .tablet) ≡ true
-  pub now-there : has (h .tablets) (m .tablet) ≡ true
-  pub old : m .old ≡ besideOf (g .tablets) (m .tablet)
-  pub new : m .new ≡ besideOf (h .tablets) (m .tablet)
-  pub other : m .old ≡ m .new → ⊥
+  pub before : has (g .tablets) (m .tablet .0) ≡ true
+  pub now-there : has (h .tablets) (m .tablet .0) ≡ true
+  pub old : m .old .0 ≡ besideOf (g .tablets) (m .tablet .0)
+  pub new : m .new .0 ≡ besideOf (h .tablets) (m .tablet .0)
+  pub other : m .old .0 ≡ m .new .0 → ⊥
 
 -- the moves from the one ring to the other: all, none but these, and each once, by rising tablet number
 pub record Names (g h : Ring) (ms : List Move) : Type 0 where
@@ -49,7 +49,7 @@ module _ (p : Positions) (m : Lent) (g : Ring) where
     unfolding moves
     named-all v h =
         rw (h .old, h .new)
-        (moved-all (g .tablets) ts (v .tablet) (besideOf ts (v .tablet)) (h .before) (has-sits ts 0 (v .tablet) rises (h .now-there))
+        (moved-all (g .tablets) ts (v .tablet .0) (besideOf ts (v .tablet .0)) (h .before) (has-sits ts 0 (v .tablet .0) rises (h .now-there))
         (λ e. h .other (h .old ∙ e ∙ sym (h .new))))
 
     named-only : (v : Move) → Listed v (moves p g c) → Moved g (after p g c) v
@@ -58,9 +58,9 @@ module _ (p : Positions) (m : Lent) (g : Ring) where
         let h : Moves (g .tablets) ts v = moved-is (g .tablets) ts v i in
         record {
           before = h .was;
-          now-there = in-has ts (v .tablet) (sits-in ts (v .tablet) (v .new) (h .to));
+          now-there = in-has ts (v .tablet .0) (sits-in ts (v .tablet .0) (v .new .0) (h .to));
           old = h .from;
-          new = sym (sits-beside ts 0 (v .tablet) (v .new) rises (h .to));
+          new = sym (sits-beside ts 0 (v .tablet .0) (v .new .0) rises (h .to));
           other = h .other;
         }
 
@@ -68,12 +68,12 @@ module _ (p : Positions) (m : Lent) (g : Ring) where
     moves-named = record { all = named-all; only = named-only; once = unfold moves in (moved-rising (g .tablets) ts 0 rises) }
 
   module _ (t : TabletNumber) where
-    pub enrol-not-listed : isDone (refusal p m g (Enrol t)) ≡ true → (v : Move) → Listed v (moves p g (Enrol t)) → v .tablet ≡ t .0 → ⊥
+    pub enrol-not-listed : isDone (refusal p m g (Enrol t)) ≡ true → (v : Move) → Listed v (moves p g (Enrol t)) → v .tablet .0 ≡ t .0 → ⊥
     unfolding moves
     enrol-not-listed d v i e =
         true-false (sym (moved-is (g .tablets) (after p g (Enrol t) .tablets) v i .was) ∙ ap (has (g .tablets)) e ∙ told-is p m g (Enrol t) d)
 
-    pub withdraw-not-listed : isDone (refusal p m g (Withdraw t)) ≡ true → t .0 < 2 ^ 32 → (v : Move) → Listed v (moves p g (Withdraw t)) → v .tablet ≡ t .0 → ⊥
+    pub withdraw-not-listed : isDone (refusal p m g (Withdraw t)) ≡ true → t .0 < 2 ^ 32 → (v : Move) → Listed v (moves p g (Withdraw t)) → v .tablet .0 ≡ t .0 → ⊥
     unfolding subject
     withdraw-not-listed d small v i e =
         true-false

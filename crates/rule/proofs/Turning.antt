@@ -19,6 +19,7 @@ use Rattle.rule.specs.declared.Move.{Move}
 use Rattle.rule.specs.Entry.{Entry, numbers, insert, delete, put, load, first, upTo}
 use Rattle.rule.specs.Order.{queued, order}
 use Rattle.rule.specs.Rule.{Ring, hasRoom}
+use Rattle.rule.specs.Calls.{move}
 use Rattle.rule.specs.Walks.{greatest}
 use Rattle.rule.specs.Sweeps.{seated, seats, Turn, turnAt, turn, newcomer}
 use Rattle.rule.specs.Rooms.{held, fill}
@@ -37,11 +38,11 @@ use Rattle.rule.proofs.Right.{Table, Right, right-stable, right-loads, 
 pub seated-append : (cs bs : List Move) (ts : List Entry) → seated (cs ++ bs) ts ≡ seated bs (seated cs ts)
 unfolding seated
 seated-append [] bs ts = refl
-seated-append (a ∷ cs) bs ts = seated-append cs bs (put (a .tablet) (a .new) ts)
+seated-append (a ∷ cs) bs ts = seated-append cs bs (put (a .tablet .0) (a .new .0) ts)
 
 pub seated-seats : (s : Turn) (r : ℕ) (ts : List Entry) → seated (seats s r) ts ≡ put (s .walker) r (seated (s .chain) ts)
 unfolding seated seats
-seated-seats s r ts = seated-append (s .chain) (record { tablet = s .walker; old = s .from; new = r } ∷ []) ts
+seated-seats s r ts = seated-append (s .chain) (move (s .walker) (s .from) r ∷ []) ts
 
 -- one number has one seat
 sits-one : (es : List Entry) (low n v u : ℕ) → Rising low (numbers es) → Sits es n v → Sits es n u → v ≡ u

@@ -16,7 +16,7 @@ use Rattle.rule.specs.declared.Move.{Move}
 use Rattle.rule.specs.Entry.{Entry, numbers, has, besideOf, insert, delete, put, total, count, upTo}
 use Rattle.rule.specs.Order.{order}
 use Rattle.rule.specs.Rule.{Ring, full, hasRoom, placement, right, mostLimit}
-use Rattle.rule.specs.Refusals.{isDone, refusedBy, Bar, bar, firstBar}
+use Rattle.rule.specs.Refusals.{isDone, replied, refusedBy, Bar, bar, firstBar}
 
 -- ---- what is lent, besides the entries
 
@@ -61,12 +61,16 @@ after p g c =
 
 -- ---- the move list
 
+-- a tablet, and the relays that it leaves and reaches
+abbrev pub move : ℕ → ℕ → ℕ → Move
+move tablet old new = record { tablet = record { 0 = tablet }; old = record { 0 = old }; new = record { 0 = new } }
+
 -- every tablet that stood in the old table, at another relay than in the new one, by rising number
 unfoldable pub moved : List Entry → List Entry → List Move
 moved old [] = []
 moved old (e ∷ es) =
     elim (has old (e .number) && not (eqb (besideOf old (e .number)) (e .beside)))
-    [ true ↦ record { tablet = e .number; old = besideOf old (e .number); new = e .beside } ∷ moved old es | false ↦ moved old es ]
+    [ true ↦ move (e .number) (besideOf old (e .number)) (e .beside) ∷ moved old es | false ↦ moved old es ]
 
 unfoldable pub moves : Positions → Ring → Call → List Move
 moves p g c = moved (g .tablets) (after p g c .tablets)
@@ -136,7 +140,7 @@ pub record Outcome : Type 0 where
 unfoldable pub accepted : Positions → Ring → Call → Outcome
 accepted p g c =
     record {
-      reply = record { refusal = Done; relay = relayOf p g c; passed = passed p g c; moves = length (moves p g c) };
+      reply = replied Done (relayOf p g c) (passed p g c) (length (moves p g c));
       ring = after p g c;
       moves = moves p g c;
     }

@@ -13,7 +13,8 @@ use Rattle.rule.specs.declared.Reply.{Reply}
 use Rattle.rule.specs.declared.Move.{Move}
 use Rattle.rule.specs.Entry.{entry}
 use Rattle.rule.specs.Rule.{Ring}
-use Rattle.rule.specs.Calls.{Lent, Outcome, outcome}
+use Rattle.rule.specs.Refusals.{replied}
+use Rattle.rule.specs.Calls.{Lent, move, Outcome, outcome}
 
 -- what a call answers: the reply, and the moves
 pub record Answer : Type 0 where
@@ -36,10 +37,7 @@ pub record Case : Type 0 where
 -- a call, and its reply: refusal, relay, passed, moves
 unfoldable pub replies : Call → Refusal → ℕ → ℕ → List Move → Case
 replies c refusal relay passed ms =
-    record { call = c; answer = record { reply = record { refusal = refusal; relay = relay; passed = passed; moves = length ms }; moves = ms } }
-
-unfoldable pub move : ℕ → ℕ → ℕ → Move
-move t from to = record { tablet = t; old = from; new = to }
+    record { call = c; answer = record { reply = replied refusal relay passed (length ms); moves = ms } }
 
 unfoldable pub drillRing : Ring
 drillRing = record { relays = entry 10 1 ∷ entry 20 2 ∷ entry 30 1 ∷ []; tablets = [] }

@@ -25,9 +25,13 @@ numberOf OutputUnfit = 12
 unfoldable pub isDone : Refusal → Bool
 isDone r = eqb (numberOf r) 0
 
--- a refused call gives 0 for the relay, the relays passed and the moves
+-- a reply: the refusal, the relay, the relays passed and the moves
+abbrev pub replied : Refusal → ℕ → ℕ → ℕ → Reply
+replied r relay passed moves = record { refusal = r; relay = record { 0 = relay }; passed = passed; moves = moves }
+
+-- a refused call gives 0 for the last three
 abbrev pub refusedBy : Refusal → Reply
-refusedBy r = record { refusal = r; relay = 0; passed = 0; moves = 0 }
+refusedBy r = replied r 0 0 0
 
 -- ---- in their order
 

@@ -7,12 +7,13 @@ use lib.Dec.{ltb}
 use Rattle.ring.specs.Scheme.{Positions}
 use Rattle.rule.specs.declared.Move.{Move}
 use Rattle.rule.specs.Entry.{Entry, put}
+use Rattle.rule.specs.Calls.{move}
 use Rattle.rule.specs.Walks.{greatest, hadPassed}
 
 -- these tablets sit down, each at its new relay
 unfoldable pub seated : List Move → List Entry → List Entry
 seated [] tablets = tablets
-seated (m ∷ ms) tablets = seated ms (put (m .tablet) (m .new) tablets)
+seated (m ∷ ms) tablets = seated ms (put (m .tablet .0) (m .new .0) tablets)
 
 -- ---- enrolling: one turn over the full relays ahead of the first with room, in the newcomer's order
 
@@ -24,7 +25,7 @@ pub record Turn : Type 0 where
 
 -- everybody who sat down, once the walker has sat down at relay r
 unfoldable pub seats : Turn → ℕ → List Move
-seats s r = s .chain ++ (record { tablet = s .walker; old = s .from; new = r } ∷ [])
+seats s r = s .chain ++ (move (s .walker) (s .from) r ∷ [])
 
 -- the walker takes the place of the greatest number at a full relay where that is greater, and that one walks on
 unfoldable pub turnAt : List Entry → Turn → Entry → Turn
@@ -46,4 +47,4 @@ newcomer t = record { walker = t; from = 0; chain = [] }
 -- each that had passed the hole takes it, and leaves its own
 unfoldable pub holes : Positions → ℕ → List Entry → List Move
 holes p r [] = []
-holes p r (e ∷ es) = elim (hadPassed p r e) [ true ↦ record { tablet = e .number; old = e .beside; new = r } ∷ holes p (e .beside) es | false ↦ holes p r es ]
+holes p r (e ∷ es) = elim (hadPassed p r e) [ true ↦ move (e .number) (e .beside) r ∷ holes p (e .beside) es | false ↦ holes p r es ]

@@ -35,16 +35,16 @@ pub enum Call {
 // What a call replies. `moves` is how many; the moves themselves stand in the lent list.
 pub struct Reply {
     pub refusal: Refusal,
-    pub relay: u32,
+    pub relay: ring::RelayNumber,
     pub passed: u32,
     pub moves: u32,
 }
 
 // One move of a move list.
 pub struct Move {
-    pub tablet: u32,
-    pub old: u32,
-    pub new: u32,
+    pub tablet: ring::TabletNumber,
+    pub old: ring::RelayNumber,
+    pub new: ring::RelayNumber,
 }
 
 // What a station counts.
@@ -89,7 +89,7 @@ pub fn refused(refusal: Refusal) -> Reply
 {
     Reply {
         refusal: refusal,
-        relay: 0,
+        relay: ring::RelayNumber(0),
         passed: 0,
         moves: 0,
     }

@@ -11,6 +11,7 @@ use Rattle.ring.specs.Clockwise as Clockwise
 use Rattle.rule.specs.declared.Call.{Call}
 use Rattle.rule.specs.declared.Call.the-variants.{Add}
 use Rattle.rule.specs.declared.Move.{Move}
+use Rattle.rule.specs.Calls.{move}
 use Rattle.rule.specs.Entry as Entry
 use Rattle.rule.specs.Order as Order
 use Rattle.rule.specs.Rule as Rule
@@ -32,7 +33,7 @@ standing zero l = []
 standing (suc k) [] = []
 standing (suc k) (t ∷ []) = []
 standing (suc k) (t ∷ o ∷ []) = []
-standing (suc k) (t ∷ o ∷ n ∷ l) = record { tablet = t; old = o; new = n } ∷ standing k l
+standing (suc k) (t ∷ o ∷ n ∷ l) = move t o n ∷ standing k l
 
 -- what calls answer, one after the other on the same lent numbers: the reply, and as many moves as it says from the lent list
 unfoldable pub answered : ℕ → Memory → List Call → List Drill.Answer
@@ -49,5 +50,5 @@ abbrev relays : List Call
 relays = Add (record { 0 = 10 }) 1 ∷ Add (record { 0 = 20 }) 2 ∷ Add (record { 0 = 30 }) 1 ∷ []
 
 pub drill-lent : drop 3 (answered 0 blank (relays ++ map (λ (c : Drill.Case). c .call) Drill.drill)) ≡ map (λ (c : Drill.Case). c .answer) Drill.drill
-unfolding answered standing called Promise.after Promise.settled Promise.written Promise.unchanged Promise.outcomeOf Meaning.lentOf Meaning.ringOf Meaning.places Meaning.fitTables Meaning.restUnused Shape.relaysUsed Shape.tabletsUsed Shape.used Shape.relayFits Shape.tabletFits Shape.all Shape.unused Table.relayPlaces Table.relayNumber Table.relayLimit Table.relayWhole Table.tabletPlaces Table.tabletNumber Table.tabletRelay Table.tabletWhole Tables.flat Tables.filled Tables.relayTable Tables.tabletTable Tables.flatMoves Tables.listed Counted.tallyOf Counted.counts Counted.tallied Tally.more Tally.counted Scheme.known Scheme.positions Scheme.position Clockwise.clockwise Clockwise.distance Clockwise.sooner Entry.numbers Entry.has Entry.besideOf Entry.insert Entry.delete Entry.put Entry.total Entry.count Entry.load Entry.first Entry.upTo Order.queued Order.order Rule.full Rule.hasRoom Rule.seat Rule.seatAll Rule.placement Rule.rising Rule.limitsFit Rule.same Rule.isJust Rule.right Refusals.isDone Refusals.firstBar Calls.edited Calls.orNobody Calls.after Calls.moved Calls.moves Calls.aheadOf Calls.fullAhead Calls.passed Calls.relayOf Calls.wrongNumbers Calls.refusal Calls.accepted Calls.declined Calls.outcome Drill.replies Drill.move Drill.drill
+unfolding answered standing called Promise.after Promise.settled Promise.written Promise.unchanged Promise.outcomeOf Meaning.lentOf Meaning.ringOf Meaning.places Meaning.fitTables Meaning.restUnused Shape.relaysUsed Shape.tabletsUsed Shape.used Shape.relayFits Shape.tabletFits Shape.all Shape.unused Table.relayPlaces Table.relayNumber Table.relayLimit Table.relayWhole Table.tabletPlaces Table.tabletNumber Table.tabletRelay Table.tabletWhole Tables.flat Tables.filled Tables.relayTable Tables.tabletTable Tables.flatMoves Tables.listed Counted.tallyOf Counted.counts Counted.tallied Tally.more Tally.counted Scheme.known Scheme.positions Scheme.position Clockwise.clockwise Clockwise.distance Clockwise.sooner Entry.numbers Entry.has Entry.besideOf Entry.insert Entry.delete Entry.put Entry.total Entry.count Entry.load Entry.first Entry.upTo Order.queued Order.order Rule.full Rule.hasRoom Rule.seat Rule.seatAll Rule.placement Rule.rising Rule.limitsFit Rule.same Rule.isJust Rule.right Refusals.isDone Refusals.firstBar Calls.edited Calls.orNobody Calls.after Calls.moved Calls.moves Calls.aheadOf Calls.fullAhead Calls.passed Calls.relayOf Calls.wrongNumbers Calls.refusal Calls.accepted Calls.declined Calls.outcome Drill.replies Drill.drill
 drill-lent = refl

@@ -23,7 +23,7 @@ use Rattle.rule.specs.Order as Order
 use Rattle.rule.specs.Rule as Rule
 use Rattle.rule.specs.Rooms as Rooms
 use Rattle.rule.specs.Refusals as Refusals
-use Rattle.rule.specs.Refusals.{isDone}
+use Rattle.rule.specs.Refusals.{isDone, replied}
 use Rattle.rule.specs.Calls as Calls
 use Rattle.rule.proofs.Right.{right-is}
 use Rattle.lent.specs.Table as Table
@@ -52,7 +52,7 @@ abbrev thirty : Call
 thirty = Enrol (record { 0 = 30 })
 
 abbrev reply : ℕ → ℕ → ℕ → Reply
-reply relay passed moves = record { refusal = Done; relay = relay; passed = passed; moves = moves }
+reply relay passed moves = replied Done relay passed moves
 
 -- 3 takes the place of 5, which takes the place of 6; 30 finds room at home
 pub two-enrolments :
@@ -97,7 +97,7 @@ module _ (f : Way) (kept : Kept f) where
 
   pub fixed-reply : (r : Reply) → ((s : ℕ) (rs ts ms : List ℕ) (c : Call) → f s rs ts ms c .reply ≡ r) → ⊥
   fixed-reply r h =
-      let e : _≡_ {A = ℕ} 10 30 = ap (λ (x : Reply). x .relay) (sym to-three ∙ h 0 relays tablets list three ∙ sym (h 0 relays tablets list thirty) ∙ to-thirty) in
+      let e : _≡_ {A = ℕ} 10 30 = ap (λ (x : Reply). x .relay .0) (sym to-three ∙ h 0 relays tablets list three ∙ sym (h 0 relays tablets list thirty) ∙ to-thirty) in
       omega arith
 
   pub tables-untouched : ((s : ℕ) (rs ts ms : List ℕ) (c : Call) → f s rs ts ms c .tablets ≡ ts) → ⊥

@@ -9,6 +9,7 @@ use native.Mathlib.Omega.{arith}
 use lib.ListN.{length, getD, set, take, drop, length-set}
 use lib.Seq.{set-at, getD-take, take-suc, take-length, drop-cons, length-take-le, append-snoc}
 use Rattle.rule.specs.declared.Move.{Move}
+use Rattle.rule.specs.Calls.{move}
 use Rattle.write.specs.Tables.{flatMoves}
 use Rattle.station.specs.Promise.{recorded}
 use Rattle.station.specs.Handing.{moveAt, handed}
@@ -22,7 +23,7 @@ length-handed list numbers (suc n) = length-set (handed list numbers n) n (moveA
 
 move-next : (a b c : ℕ) (l : List ℕ) (i : ℕ) → moveAt (a ∷ b ∷ c ∷ l) (suc i) ≡ moveAt l i
 move-next a b c l i =
-    λ j. record { tablet = getD (a ∷ b ∷ c ∷ l) (first j) 0; old = getD (a ∷ b ∷ c ∷ l) (second j) 0; new = getD (a ∷ b ∷ c ∷ l) (third j) 0 }
+    λ j. move (getD (a ∷ b ∷ c ∷ l) (first j) 0) (getD (a ∷ b ∷ c ∷ l) (second j) 0) (getD (a ∷ b ∷ c ∷ l) (third j) 0)
   where
     first : 3 * suc i ≡ suc (suc (suc (3 * i)))
     first = omega arith
@@ -37,16 +38,15 @@ move-flat : (ms : List Move) (i : ℕ) (d : Move) → i < length ms → moveAt (
 unfolding flatMoves
 move-flat [] i d h = absurd (omega arith)
 move-flat (m ∷ ms) zero d h = refl
-move-flat (m ∷ ms) (suc i) d h = move-next (m .tablet) (m .old) (m .new) (flatMoves ms) i ∙ move-flat ms i d (omega arith)
+move-flat (m ∷ ms) (suc i) d h = move-next (m .tablet .0) (m .old .0) (m .new .0) (flatMoves ms) i ∙ move-flat ms i d (omega arith)
 
 -- it reads no further than the moves
 move-take : (numbers : List ℕ) (n i : ℕ) → i < n → moveAt (take (3 * n) numbers) i ≡ moveAt numbers i
 move-take numbers n i h =
-    λ j. record {
-      tablet = getD-take (3 * n) numbers (3 * i) 0 (omega arith) j;
-      old = getD-take (3 * n) numbers (3 * i + 1) 0 (omega arith) j;
-      new = getD-take (3 * n) numbers (3 * i + 2) 0 (omega arith) j;
-    }
+    λ j. move
+    (getD-take (3 * n) numbers (3 * i) 0 (omega arith) j)
+    (getD-take (3 * n) numbers (3 * i + 1) 0 (omega arith) j)
+    (getD-take (3 * n) numbers (3 * i + 2) 0 (omega arith) j)
 
 -- ---- handed out
 
@@ -56,7 +56,7 @@ handed-firsts : (ms list : List Move) (numbers : List ℕ) (n : ℕ) → ((i : �
 unfolding handed
 handed-firsts ms list numbers zero f h k = refl
 handed-firsts ms list numbers (suc n) f h k =
-    let d : Move = record { tablet = 0; old = 0; new = 0 } in
+    let d : Move = move 0 0 0 in
     ap₂ (λ (l : List Move) (m : Move). set l n m)
     (handed-firsts ms list numbers n f (omega arith) (omega arith) ∙ ap (λ (l : List Move). take n ms ++ l) (drop-cons list n d k))
     (f n d h)

@@ -3,10 +3,11 @@ use mathlib.Core.List.{List}
 use Prim.Native.Nat.{ℕ, zero, suc, _+_, _*_}
 use lib.ListN.{getD, set}
 use Rattle.rule.specs.declared.Move.{Move}
+use Rattle.rule.specs.Calls.{move}
 
 -- move i of the numbers
 abbrev pub moveAt : List ℕ → ℕ → Move
-moveAt numbers i = record { tablet = getD numbers (3 * i) 0; old = getD numbers (3 * i + 1) 0; new = getD numbers (3 * i + 2) 0 }
+moveAt numbers i = move (getD numbers (3 * i) 0) (getD numbers (3 * i + 1) 0) (getD numbers (3 * i + 2) 0)
 
 -- the list with the first n moves written in its first n places
 unfoldable pub handed : List Move → List ℕ → ℕ → List Move

@@ -25,9 +25,9 @@ fn move_at(numbers: &[u32; 12288], i: usize) -> rule::Move
 {
     let j = 3 * i;
     rule::Move {
-        tablet: numbers[j],
-        old: numbers[j + 1],
-        new: numbers[j + 2],
+        tablet: ring::TabletNumber(numbers[j]),
+        old: ring::RelayNumber(numbers[j + 1]),
+        new: ring::RelayNumber(numbers[j + 2]),
     }
 }
 

@@ -15,7 +15,7 @@ use Rattle.roster.specs.Reading as Roster
 
 -- in the order of the paper
 unfoldable pub replyNumbers : Reply → List ℕ
-replyNumbers r = numberOf (r .refusal) ∷ r .relay ∷ r .passed ∷ r .moves ∷ []
+replyNumbers r = numberOf (r .refusal) ∷ r .relay .0 ∷ r .passed ∷ r .moves ∷ []
 
 -- the number answered and every lent number afterwards, for what was lent and the call
 pub record Serves (s : ℕ) (rs ts ms tally : List ℕ) (c : Call) (answer : ℕ) (reply rs′ ts′ ms′ tally′ : List ℕ) : Type 0 where

@@ -30,7 +30,7 @@ fn hand_out(reply: &mut [u32; 4], r: rule::Reply) -> u32
 {
     let refusal = r.refusal;
     let number = rule::number(refusal);
-    *reply = [number, r.relay, r.passed, r.moves];
+    *reply = [number, r.relay.0, r.passed, r.moves];
     number
 }
 

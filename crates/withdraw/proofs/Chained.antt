@@ -14,6 +14,7 @@ use Rattle.ring.proofs.Tests.{split}
 use Rattle.rule.specs.declared.Move.{Move}
 use Rattle.rule.specs.Entry.{Entry, entry, has, besideOf, delete}
 use Rattle.rule.specs.Rule.{Ring}
+use Rattle.rule.specs.Calls.{move}
 use Rattle.rule.specs.Walks.{hadPassed}
 use Rattle.rule.specs.Sweeps.{holes}
 use Rattle.rule.proofs.Orders.{Among}
@@ -82,7 +83,7 @@ module _ {s : ℕ} {rs ts : List ℕ} {n m : ℕ} {v : Survey} (b : Start s rs t
   movers-holes (suc left) i j h l =
       split (passedAt (v .home) (v .slot) i j)
       (λ p. ap (movesOf ts (tabletRelay ts i)) (movers-take (v .home) (v .slot) i j left p)
-      ∙ ap (λ (l : List Move). record { tablet = tabletNumber ts j; old = tabletRelay ts j; new = tabletRelay ts i } ∷ l) (movers-holes left j (suc j) (omega arith) (omega arith))
+      ∙ ap (λ (l : List Move). move (tabletNumber ts j) (tabletRelay ts j) (tabletRelay ts i) ∷ l) (movers-holes left j (suc j) (omega arith) (omega arith))
       ∙ sym (holes-take (positions s) (tabletRelay ts i) (entry (tabletNumber ts j) (tabletRelay ts j)) (behind (suc j) left) (sym (passed-at b i j h (omega arith)) ∙ p)))
       (λ p. ap (movesOf ts (tabletRelay ts i)) (movers-pass (v .home) (v .slot) i j left p)
       ∙ movers-holes left i (suc j) h (omega arith)

@@ -20,7 +20,7 @@ use Rattle.rule.specs.declared.Call.the-variants.{Withdraw}
 use Rattle.rule.specs.Entry.{Entry, has, besideOf, delete, total}
 use Rattle.rule.specs.Rule.{Ring}
 use Rattle.rule.specs.Sweeps.{seated}
-use Rattle.rule.specs.Refusals.{isDone, refusedBy, firstBar}
+use Rattle.rule.specs.Refusals.{isDone, replied, refusedBy, firstBar}
 use Rattle.rule.specs.Calls as Calls
 use Rattle.rule.specs.Calls.{edited, moves, passed, relayOf, refusal, wrongNumbers, accepted}
 use Rattle.rule.proofs.Counts.{length-delete}
@@ -118,7 +118,7 @@ module _ {s : ℕ} {rs ts : List ℕ} {n m : ℕ} {v : Survey} (b : Start s rs t
             ∙ rw (← stands .number) (ap (λ (x : List Move). seated x (delete (tabletNumber ts (seat .at)) (tabletsIn ts m))) (sym (chain-moves b (seat .at) (stands .below))))
             ∙ ap (λ (x : List ℕ). seated (movesOf ts (tabletRelay ts (seat .at)) x) (delete (tabletNumber ts (seat .at)) (tabletsIn ts m))) (sym (c .are))
 
-        pub withdraw-done : Answers (after s rs ts ms (Withdraw t)) (record { refusal = Done; relay = seat .relay .0; passed = seat .passed; moves = chain .count }) rs ts′ ms′
+        pub withdraw-done : Answers (after s rs ts ms (Withdraw t)) (replied Done (seat .relay .0) (seat .passed) (chain .count)) rs ts′ ms′
         withdraw-done =
             accepted-answers s rs ts ms (Withdraw t)
             (all-passed s rs ts ms (Withdraw t) b (numbers-fine ms) enough (unfold lentOf in (rw count-is l)))

@@ -41,10 +41,12 @@ pub fn withdraw(
         return rule::refused(rule::Refusal::MoveListTooShort);
     }
     holes::fill(tablets, moves, m, at, &chain.places, count);
+    let made = count as u32;
+    let relay = seat.relay;
     rule::Reply {
         refusal: rule::Refusal::Done,
-        relay: seat.relay.0,
+        relay: relay,
         passed: seat.passed,
-        moves: count as u32,
+        moves: made,
     }
 }

@@ -26,7 +26,7 @@ tabletTable len g = filled len (flat (g .tablets))
 
 unfoldable pub flatMoves : List Move → List ℕ
 flatMoves [] = []
-flatMoves (m ∷ ms) = m .tablet ∷ m .old ∷ m .new ∷ flatMoves ms
+flatMoves (m ∷ ms) = m .tablet .0 ∷ m .old .0 ∷ m .new .0 ∷ flatMoves ms
 
 unfoldable pub listed : List Move → List ℕ → List ℕ
 listed ms list = flatMoves ms ++ drop (3 * length ms) list

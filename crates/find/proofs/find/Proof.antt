@@ -35,7 +35,7 @@ returns-2 c =
     seat-refused b _ (c .before .before .before .seat-of .ensures) (c .before .before .done2 .ensures) (c .before .if2 .taken) (c .refused2 .ensures) _ (missing-find b _)
 
 returns-3 : tie.Need-returns-3
-returns-3 c = find-found (look-start (c .before .before .before .before .before .before .before .before .look .ensures) (c .before .before .before .before .before .before .before .done .ensures) (c .before .before .before .before .before .before .if1 .left)) _ (c .before .before .seat-of .ensures) (c .before .done2 .ensures) (c .if2 .left)
+returns-3 c = find-found (look-start (c .before .before .before .before .before .before .before .before .before .look .ensures) (c .before .before .before .before .before .before .before .before .done .ensures) (c .before .before .before .before .before .before .before .if1 .left)) _ (c .before .before .before .seat-of .ensures) (c .before .before .done2 .ensures) (c .before .if2 .left)
 
 pub find-spec : {M : Type 1} → statement M
 find-spec =
