@@ -2,11 +2,9 @@
 -- are their numbers in ASCII: 10 ends a line, 32 is the space, 48 is `0`, 109 is `m`. Assumes nothing.
 use mathlib.Core.Bool.{cond}
 use mathlib.Core.List.{List, [], _∷_, _++_}
-use mathlib.Core.Path.{_≡_}
 use Prim.Native.Nat.{ℕ, zero, suc, _+_, _*_, _/_, _%_, min}
 use lib.Dec.{ltb}
 use lib.ListN.{length, getD}
-use lib.Seq.{sets}
 use Rattle.rule.specs.declared.Reply.{Reply}
 use Rattle.rule.specs.Refusals.{numberOf}
 
@@ -45,10 +43,3 @@ movesText moves (suc i) = movesText moves i ++ moveTextAt moves i
 -- the reply and its moves, of which a list can hold a third of its length
 unfoldable pub answerText : Reply → List ℕ → List ℕ
 answerText r moves = replyText r ++ movesText moves (min (r .moves) (length moves / 3))
-
--- ---- where it is put
-
--- these bytes put into a slice from a place on, as far as there is room, and the place behind them
-pub record Puts (out : List ℕ) (at : ℕ) (text after : List ℕ) (next : ℕ) : Type 0 where
-  pub places : after ≡ sets out at text
-  pub behind : next ≡ min (at + length text) (length out)

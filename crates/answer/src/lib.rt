@@ -4,18 +4,8 @@ ghost use mathlib.Core.List.{[], _∷_, _++_};
 ghost use mathlib.Core.Path.{_≡_};
 ghost use Prim.Native.Nat.{_+_, _*_, _≤_, _<_, min};
 ghost use lib.ListN.{length};
-ghost use Rattle.answer.specs.Text.{Puts, numberThen, moveTextAt, movesText, answerText};
-
-// One byte, where there is room.
-pub fn put(out: &mut [u8], at: usize, b: u8) -> usize
-    ensures { λ next. ⌜ Puts (now (out .entry)) at (b ∷ []) (now (out .exit)) next ⌝ }
-{
-    if at < out.len() {
-        out[at] = b;
-        return at + 1;
-    }
-    out.len()
-}
+ghost use Rattle.text.specs.Puts.{Puts};
+ghost use Rattle.answer.specs.Text.{numberThen, moveTextAt, movesText, answerText};
 
 fn put_bytes(out: &mut [u8], at: usize, bytes: &[u8]) -> usize
     requires { ⌜ at ≤ length (now out) ⌝ }
@@ -24,7 +14,7 @@ fn put_bytes(out: &mut [u8], at: usize, bytes: &[u8]) -> usize
     let mut next = at;
     let mut i = 0;
     while i < bytes.len() {
-        next = put(out, next, bytes[i]);
+        next = text::put_byte(out, next, bytes[i]);
         i += 1;
     }
     next
@@ -38,7 +28,7 @@ fn put_number(out: &mut [u8], at: usize, n: u32, behind: u8) -> usize
     let mut digits = [0u8; 20];
     let count = io::decimal(n as u64, &mut digits);
     let next = put_bytes(out, at, &digits[..count]);
-    put(out, next, behind)
+    text::put_byte(out, next, behind)
 }
 
 // Move i of the list.
@@ -91,5 +81,5 @@ pub fn echo(out: &mut [u8], line: &[u8]) -> usize
     ensures { λ next. ⌜ Puts (now (out .entry)) 0 (now (line .entry) ++ (10 ∷ [])) (now (out .exit)) next ⌝ }
 {
     let end = put_bytes(out, 0, line);
-    put(out, end, b'\n')
+    text::put_byte(out, end, b'\n')
 }

@@ -10,8 +10,9 @@ use Rattle.rule.specs.declared.Call.{Call}
 use Rattle.rule.specs.declared.Reply.{Reply}
 use Rattle.look.specs.Promise.{after}
 use Rattle.calls.specs.Promise.{Keeps}
-use Rattle.answer.specs.Text.{Puts, answerText}
-use Rattle.answer.proofs.Putting.{puts-text}
+use Rattle.text.specs.Puts.{Puts}
+use Rattle.answer.specs.Text.{answerText}
+use Rattle.text.proofs.Putting.{puts-text}
 use Rattle.desk.specs.declared.Stage.{Stage}
 use Rattle.desk.specs.declared.Stage.the-variants.{Under}
 use Rattle.desk.specs.declared.Standing.{Standing}

@@ -16,8 +16,8 @@ use Rattle.line.specs.declared.Line.the-variants as line
 use Rattle.line.specs.declared.First as firsts
 use Rattle.line.specs.declared.First.the-variants as names
 use Rattle.line.specs.Line.{schemeOf, meaningOf}
-use Rattle.answer.specs.Text.{Puts}
-use Rattle.answer.proofs.Putting.{puts-within}
+use Rattle.text.specs.Puts.{Puts}
+use Rattle.text.proofs.Putting.{puts-within}
 use Rattle.answer.proofs.Room.{answer-room}
 use Rattle.desk.specs.declared.Stage.{Stage}
 use Rattle.desk.specs.declared.Stage.the-variants.{First, Under, Over}

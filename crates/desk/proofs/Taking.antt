@@ -8,8 +8,8 @@ use Prim.Native.Nat.{ℕ, _-_}
 use native.Mathlib.Omega.{arith}
 use borrow.Author.Tests.{eq-eqb, ne-eqb}
 use lib.ListN.{take}
-use Rattle.answer.specs.Text.{Puts}
-use Rattle.answer.proofs.Putting.{puts-nothing}
+use Rattle.text.specs.Puts.{Puts}
+use Rattle.text.proofs.Putting.{puts-nothing}
 use Rattle.desk.specs.declared.Standing.{Standing}
 use Rattle.desk.specs.Lines.{answered, Answers}
 use Rattle.desk.specs.Bytes.{keeping, taken, lineThen, Takes}

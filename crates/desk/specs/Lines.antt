@@ -11,7 +11,8 @@ use Rattle.line.specs.declared.Line.the-variants as line
 use Rattle.line.specs.declared.First as firsts
 use Rattle.line.specs.declared.First.the-variants as names
 use Rattle.line.specs.Line.{meaningOf, schemeOf}
-use Rattle.answer.specs.Text.{Puts, answerText}
+use Rattle.text.specs.Puts.{Puts}
+use Rattle.answer.specs.Text.{answerText}
 use Rattle.desk.specs.declared.Stage.{Stage}
 use Rattle.desk.specs.declared.Stage.the-variants.{First, Under, Over}
 use Rattle.desk.specs.declared.Standing.{Standing}

@@ -139,7 +139,7 @@ pub fn take_byte(
     if b == b'\n' {
         return answer_line(relays, tablets, moves, answer, stage, kept_part(line, kept));
     }
-    let more = answer::put(line, kept, b);
+    let more = text::put_byte(line, kept, b);
     Standing {
         stage: stage,
         kept: more,

@@ -7,8 +7,8 @@ use native.Mathlib.Omega.{arith}
 use borrow.Author.Needs.{needs}
 use lib.ListN.{length, take, getD}
 use lib.Seq.{take-suc, take-all}
-use Rattle.answer.specs.Text.{Puts}
-use Rattle.answer.proofs.Putting.{puts-nothing, puts-append, puts-length}
+use Rattle.text.specs.Puts.{Puts}
+use Rattle.text.proofs.Putting.{puts-nothing, puts-append, puts-length}
 use Rattle.answer.proofs.put_bytes.Statement.{statement}
 use Rattle.answer.proofs.put_bytes.Tie as tie
 
@@ -21,11 +21,11 @@ abbrev μ-loop : tie.MeasureT-loop
 loop-holds : tie.Need-loop-holds Inv-loop μ-loop
 loop-holds c = (omega arith, puts-nothing _ (c .before .before .pre))
 
-shared-slice-read-put : tie.Need-shared-slice-read-put Inv-loop μ-loop
-shared-slice-read-put c = search needs
+shared-slice-read-put-byte : tie.Need-shared-slice-read-put-byte Inv-loop μ-loop
+shared-slice-read-put-byte c = search needs
 
-put-requires : tie.Need-put-requires Inv-loop μ-loop
-put-requires c κs = search needs
+put-byte-requires : tie.Need-put-byte-requires Inv-loop μ-loop
+put-byte-requires c κs = search needs
 
 add-i : tie.Need-add-i Inv-loop μ-loop
 add-i c = search needs
@@ -39,7 +39,7 @@ loop-again c =
     let bytes = c .before .before .before .before .before .before .before .before .before .args .bytes .now in
     let h : l .i < length bytes = c .before .before .before .before .before .loop-test .taken in
     let more : take (l .i + 1) bytes ≡ take (l .i) bytes ++ (getD bytes (l .i) 0 ∷ []) = rw (add-one, take-suc bytes (l .i) 0) in
-    (omega arith, rw more (puts-append (l .inv .1) (c .before .before .put .ensures)))
+    (omega arith, rw more (puts-append (l .inv .1) (c .before .before .put-byte .ensures)))
 
 same-length : tie.Need-same-length Inv-loop μ-loop
 same-length c = puts-length (c .before .loop .inv .1)
@@ -56,8 +56,8 @@ put-bytes-spec =
     Inv-loop
     μ-loop
     loop-holds
-    shared-slice-read-put
-    put-requires
+    shared-slice-read-put-byte
+    put-byte-requires
     add-i
     loop-less
     loop-again

@@ -5,8 +5,9 @@ use Prim.Native.Nat.{_+_, _-_, _≤_}
 use native.Mathlib.Numerals.{add-one}
 use native.Mathlib.Omega.{arith}
 use borrow.Author.Needs.{needs}
-use Rattle.answer.specs.Text.{Puts, moveTextAt, movesText}
-use Rattle.answer.proofs.Putting.{puts-nothing, puts-text, puts-append, puts-within, puts-length}
+use Rattle.text.specs.Puts.{Puts}
+use Rattle.answer.specs.Text.{moveTextAt, movesText}
+use Rattle.text.proofs.Putting.{puts-nothing, puts-text, puts-append, puts-within, puts-length}
 use Rattle.answer.proofs.put_moves.Statement.{statement}
 use Rattle.answer.proofs.put_moves.Tie as tie
 

@@ -2,7 +2,7 @@
 use mathlib.Core.Path.{_∙_}
 use native.Mathlib.Omega.{arith}
 use Rattle.answer.specs.Text.{numberThen}
-use Rattle.answer.proofs.Putting.{puts-text, puts-append}
+use Rattle.text.proofs.Putting.{puts-text, puts-append}
 use Rattle.answer.proofs.Spelling.{spelled}
 use borrow.Author.Needs.{needs}
 use Rattle.answer.proofs.put_number.Statement.{statement}
@@ -20,8 +20,8 @@ slice-aggregate-put-bytes c = search needs
 put-bytes-requires : tie.Need-put-bytes-requires
 put-bytes-requires c κs = search needs
 
-put-requires : tie.Need-put-requires
-put-requires c κs = search needs
+put-byte-requires : tie.Need-put-byte-requires
+put-byte-requires c κs = search needs
 
 same-length : tie.Need-same-length
 same-length c = search needs
@@ -30,7 +30,7 @@ returns : tie.Need-returns
 unfolding numberThen
 returns c =
     let d = c .before .before .before .before .before .before .before .before .before .decimal in
-    puts-append (puts-text (d .ensures .1 .1 ∙ spelled _ _ (omega arith) (d .ensures .1 .0)) (c .before .before .before .before .before .before .put-bytes .ensures)) (c .before .before .put .ensures)
+    puts-append (puts-text (d .ensures .1 .1 ∙ spelled _ _ (omega arith) (d .ensures .1 .0)) (c .before .before .before .before .before .before .put-bytes .ensures)) (c .before .before .put-byte .ensures)
 
 pub put-number-spec : {M : Type 1} → statement M
 put-number-spec =
@@ -40,6 +40,6 @@ put-number-spec =
     array-share-prefix-digits
     slice-aggregate-put-bytes
     put-bytes-requires
-    put-requires
+    put-byte-requires
     same-length
     returns)

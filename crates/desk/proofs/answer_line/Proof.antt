@@ -1,6 +1,6 @@
 -- `desk::answer_line` meets its contract, stage by stage. Assumes nothing.
 use native.Mathlib.Omega.{arith}
-use Rattle.answer.proofs.Putting.{puts-nothing}
+use Rattle.text.proofs.Putting.{puts-nothing}
 use Rattle.desk.specs.Lines.{answered}
 use Rattle.desk.proofs.Answering.{says-text, answers-said}
 use borrow.Author.Needs.{needs}

@@ -30,14 +30,14 @@ returns c =
     let line = c .before .before .before .before .before .before .before .before in
     takes-end (line .before .before .before .before .before .before .before .if1 .taken) (line .before .kept-part .ensures) (line .answer-line .ensures)
 
-put-requires : tie.Need-put-requires
-put-requires c κs = search needs
+put-byte-requires : tie.Need-put-byte-requires
+put-byte-requires c κs = search needs
 
 same-length-6 : tie.Need-same-length-6
 same-length-6 c = search needs
 
 returns-2 : tie.Need-returns-2
-returns-2 c = takes-kept (c .before .before .before .before .if1 .left) (c .before .before .put .ensures)
+returns-2 c = takes-kept (c .before .before .before .before .if1 .left) (c .before .before .put-byte .ensures)
 
 pub take-byte-spec : {M : Type 1} → statement M
 take-byte-spec =
@@ -51,6 +51,6 @@ take-byte-spec =
     same-length-4
     same-length-5
     returns
-    put-requires
+    put-byte-requires
     same-length-6
     returns-2)

@@ -1,8 +1,8 @@
--- `answer::put` meets its contract. Assumes nothing.
-use Rattle.answer.proofs.Putting.{puts-none}
+-- `text::put_byte` meets its contract. Assumes nothing.
 use borrow.Author.Needs.{needs}
-use Rattle.answer.proofs.put.Statement.{statement}
-use Rattle.answer.proofs.put.Tie as tie
+use Rattle.text.proofs.Putting.{puts-none}
+use Rattle.text.proofs.put_byte.Statement.{statement}
+use Rattle.text.proofs.put_byte.Tie as tie
 
 slice-write-out : tie.Need-slice-write-out
 slice-write-out c = search needs
@@ -19,5 +19,5 @@ returns c = search needs
 returns-2 : tie.Need-returns-2
 returns-2 c = puts-none _ _ _ (c .if1 .left)
 
-pub put-spec : {M : Type 1} → statement M
-put-spec = tie.close (tie.spec slice-write-out add-result same-length returns returns-2)
+pub put-byte-spec : {M : Type 1} → statement M
+put-byte-spec = tie.close (tie.spec slice-write-out add-result same-length returns returns-2)

@@ -14,7 +14,7 @@ use lib.Dec.{leb}
 use lib.ListN.{length, set, length-set, length-append}
 use lib.Seq.{sets, length-sets, set-out}
 use Rattle.ring.proofs.Tests.{split}
-use Rattle.answer.specs.Text.{Puts}
+use Rattle.text.specs.Puts.{Puts}
 
 sets-append : (s t l : List ℕ) (i : ℕ) → sets l i (s ++ t) ≡ sets (sets l i s) (i + length s) t
 sets-append [] t l i = ap (λ k. sets l k t) (sym (add-zero i))
