@@ -17,7 +17,7 @@ use Rattle.lent.proofs.Loops.{stored}
 use Rattle.order.specs.Keys.{slotRelay}
 use Rattle.meaning.specs.Meaning.{places, tabletsIn}
 use Rattle.slots.specs.Slots.{slotAt, stepsTo, roundNumber, roundLimit, round}
-use Rattle.slots.proofs.Steps.{slot-inside, steps-inside, slot-steps, steps-slot, slot-next}
+use Rattle.slots.proofs.Steps.{slot-on, slot-inside, steps-inside, slot-steps, steps-slot, slot-next}
 use Rattle.chain.specs.Chain.{nameAt, chainOf, nextSlot, From, Chained}
 use Rattle.chain.specs.Visit.{givesWay, Visited}
 use Rattle.chain.proofs.Keeping.{Turned, numberBefore, last-within, greatest-last, keeps-start, keeps-end, keeps-visited}
@@ -31,9 +31,9 @@ pub record Going (rs ts : List ℕ) (n m : ℕ) (keys : List ℕ) (h stop x : �
   pub seat-size : length seat ≡ mostRelays
   pub keeps : Turned x rs ts place seat n m c (turn (tabletsIn ts m) (newcomer x) (round rs keys n h d))
 
-module _ {p : Positions} {rs ts : List ℕ} {n m : ℕ} {keys last : List ℕ} {h stop x : ℕ} (f : From p rs ts n m keys last h stop x) where
+module _ {p : Positions} {rs ts : List ℕ} {n m : ℕ} {keys last : List ℕ} {h stop : ℕ} (f : From p rs ts n m keys last h stop) where
   in-ring : h ≤ n
-  in-ring = f .home .begins .within
+  in-ring = omega (arith, f .home)
 
   pub few-relays : n ≤ mostRelays
   few-relays = f .rises .relaysFit .few
@@ -41,11 +41,11 @@ module _ {p : Positions} {rs ts : List ℕ} {n m : ℕ} {keys last : List ℕ} {
   pub steps-few : stepsTo n h stop < n
   steps-few = steps-inside n h in-ring stop (f .inside)
 
-  pub going-start : (place seat : List ℕ) (k : ℕ) → length place ≡ mostRelays → length seat ≡ mostRelays → k ≡ slotAt n h 0 → Going rs ts n m keys h stop x place seat 0 0 k
-  going-start place seat k lp ls e =
+  pub going-start : {x : ℕ} (place seat : List ℕ) → length place ≡ mostRelays → length seat ≡ mostRelays → Going rs ts n m keys h stop x place seat 0 0 h
+  going-start {x} place seat lp ls =
       record {
         short = omega arith;
-        at = e;
+        at = omega (arith, slot-on n h in-ring 0 (omega (arith, f .home)));
         few = omega arith;
         place-size = lp;
         seat-size = ls;
@@ -55,7 +55,7 @@ module _ {p : Positions} {rs ts : List ℕ} {n m : ℕ} {keys last : List ℕ} {
       none-yet : turn (tabletsIn ts m) (newcomer x) (round rs keys n h 0) ≡ newcomer x
       none-yet = unfold places in (turn-none (tabletsIn ts m) (newcomer x))
 
-  module _ (place seat : List ℕ) (c d k : ℕ) (g : Going rs ts n m keys h stop x place seat c d k) where
+  module _ {x : ℕ} {place seat : List ℕ} {c d k : ℕ} (g : Going rs ts n m keys h stop x place seat c d k) where
     pub slot-small : k < n
     slot-small = omega (arith, g .at, slot-inside n h in-ring d (omega (arith, g .short, steps-few)))
 

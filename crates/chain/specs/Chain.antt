@@ -13,7 +13,6 @@ use Rattle.rule.specs.Sweeps.{seats, turn, newcomer}
 use Rattle.lent.specs.Table.{relayNumber, tabletNumber}
 use Rattle.lent.specs.Placing.{relayPositions}
 use Rattle.order.specs.Keys.{slotRelay, Ordered}
-use Rattle.order.specs.Home.{keyAt, Home}
 use Rattle.survey.specs.Seats.{lastAfter}
 use Rattle.meaning.specs.Meaning.{tabletsIn}
 use Rattle.meaning.proofs.Right.{Rises}
@@ -42,12 +41,12 @@ chainOf x rs ts place seat (suc c) = chainOf x rs ts place seat c ++ (linkAt x r
 unfoldable pub nextSlot : ℕ → ℕ → ℕ
 nextSlot n k = cond (eqb (k + 1) n) 0 (k + 1)
 
--- what a turn is made from: right tables as a survey found them, the newcomer's home, and the first slot with room from there
-pub record From (p : Positions) (rs ts : List ℕ) (n m : ℕ) (keys last : List ℕ) (h stop x : ℕ) : Type 0 where
+-- what a turn is made from: right tables as a survey found them, the slot of the newcomer's home, and the first slot with room from there
+pub record From (p : Positions) (rs ts : List ℕ) (n m : ℕ) (keys last : List ℕ) (h stop : ℕ) : Type 0 where
   pub rises : Rises p rs ts n m
   pub ordered : Ordered (relayPositions p rs n) n keys
   pub greatest : last ≡ lastAfter p rs ts n m
-  pub home : Home keys n (keyAt (p .tabletAt x)) h
+  pub home : h < n
   pub inside : stop < n
 
 -- the newcomer first, then all who gave way: c of them sat down after the steps to the first slot with room

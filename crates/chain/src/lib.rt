@@ -5,7 +5,6 @@ ghost use Prim.Native.Nat.{ℕ, _+_, _-_, _<_, _≤_};
 ghost use lib.ListN.{length, getD, set};
 ghost use Rattle.ring.specs.Scheme.{positions};
 ghost use Rattle.lent.specs.Table.{tabletPlaces};
-ghost use Rattle.slots.specs.Slots.{slotAt};
 ghost use Rattle.chain.specs.Chain.{nameAt, nextSlot, From, Chained};
 ghost use Rattle.chain.specs.Visit.{givesWay, Visited};
 
@@ -23,14 +22,6 @@ fn next_slot(n: usize, k: usize) -> usize
     ensures { λ r. ⌜ r ≡ nextSlot n k ⌝ }
 {
     if k + 1 == n { 0 } else { k + 1 }
-}
-
-// The slot that a home means: past the last slot is the first.
-fn first_slot(n: usize, h: usize) -> usize
-    requires { ⌜ h ≤ n ⌝ }
-    ensures { λ r. ⌜ r ≡ slotAt n h 0 ⌝ }
-{
-    if h == n { 0 } else { h }
 }
 
 // The tablet that walks once c sat down; t is the newcomer.
@@ -101,14 +92,15 @@ pub fn turn(
     stop: usize,
     t: ring::TabletNumber,
 ) -> Chain
-    requires { ⌜ ((s : ℕ) × From (positions s) (now relays) (now tablets) n m (now keys) (now last) h stop (t .0)) ⌝ }
-    ensures { λ r. ⌜ Chained (now (relays .entry)) (now (tablets .entry)) n m (now (keys .entry)) h stop (t .0) (r .others) (r .steps) (r .place) (r .seat) ⌝ }
+    requires { ⌜ ((s : ℕ) × From (positions s) (now relays) (now tablets) n m (now keys) (now last) h stop) ⌝ }
+    ensures { λ r. ⌜ Chained (now (relays .entry)) (now (tablets .entry)) n m (now (keys .entry)) h stop (t .0)
+        (r .others) (r .steps) (r .place) (r .seat) ⌝ }
 {
     let mut place = [0u16; 256];
     let mut seat = [0u8; 256];
     let mut c: usize = 0;
     let mut d: usize = 0;
-    let mut k = first_slot(n, h);
+    let mut k = h;
     while k != stop {
         let i = order::slot_relay(keys, k);
         let w = walker(tablets, &place, c, t);

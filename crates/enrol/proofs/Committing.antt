@@ -27,9 +27,10 @@ use Rattle.write.specs.Wrote.{WroteTablets, Place}
 use Rattle.write.proofs.Filled.{tablets-table, zeros-behind}
 use Rattle.look.specs.Promise.{after, Answers}
 use Rattle.look.proofs.Refusing.{accepted-answers}
-use Rattle.enrol.specs.declared.newcomer.Enrolment.{Enrolment}
-use Rattle.enrol.specs.Enrol.{othersOf, OthersSeated, Worked, Prepared}
-use Rattle.enrol.proofs.Working.{length-others}
+use Rattle.newcomer.specs.declared.Enrolment.{Enrolment}
+use Rattle.newcomer.specs.Newcomer.{othersOf, Worked, Prepared}
+use Rattle.enrol.specs.Enrol.{OthersSeated}
+use Rattle.newcomer.proofs.Working.{length-others}
 use Rattle.enrol.proofs.Seating.{places-still}
 
 -- only one refusal is none

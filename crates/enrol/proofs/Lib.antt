@@ -1,4 +1,2 @@
-pub mod Working
 pub mod Seating
-pub mod Planning
 pub mod Committing

@@ -20,8 +20,9 @@ use Rattle.write.specs.Places.{SetBeside}
 use Rattle.write.specs.Wrote.{WroteTablets, Climbs}
 use Rattle.write.proofs.Listed.{listed-none, listed-more, length-listed}
 use Rattle.chain.specs.Chain.{linkAt, nameAt, fromAt}
-use Rattle.enrol.specs.Enrol.{othersOf, OneSeated, OthersSeated}
-use Rattle.enrol.proofs.Working.{length-others}
+use Rattle.newcomer.specs.Newcomer.{othersOf}
+use Rattle.enrol.specs.Enrol.{OneSeated, OthersSeated}
+use Rattle.newcomer.proofs.Working.{length-others}
 
 pub sat-down : (rs ts ms : List ℕ) {ts′ ms′ : List ℕ} (m c j old new a b r : ℕ) → WroteTablets ts ts′ m (put (tabletNumber ts j) r (tabletsIn ts m)) → SetBeside tabletNumber tabletRelay ts ts′ j r
     → a ≡ tabletNumber ts j → b ≡ relayNumber rs old → r ≡ relayNumber rs new → ms′ ≡ Listing.setMove ms c a b r → OneSeated rs ts ts′ ms ms′ m c j old new

@@ -1,14 +1,13 @@
 // Enrolling a tablet (document 01, "The rule of placement"). What it comes to is worked out first, in `newcomer`; nothing lent is written
 // before the last refusal is decided.
-mod newcomer;
-
 ghost use Prim.Native.Nat.{ℕ, _+_, _*_, _<_, _≤_};
 ghost use lib.ListN.{length};
 ghost use Rattle.rule.specs.declared.Call.the-variants.{Enrol};
 ghost use Rattle.lent.specs.Table.{relayPlaces, tabletPlaces, tabletNumber};
 ghost use Rattle.write.specs.Wrote.{Climbs};
 ghost use Rattle.look.specs.Promise.{after, Answers};
-ghost use Rattle.enrol.specs.Enrol.{OneSeated, Seatable, OthersSeated};
+ghost use Rattle.newcomer.specs.Newcomer.{Seatable};
+ghost use Rattle.enrol.specs.Enrol.{OneSeated, OthersSeated};
 
 // ---- those who gave way
 
@@ -23,8 +22,10 @@ fn seat_one(
     old: usize,
     new: usize,
 )
-    requires { ⌜ (j < m) × (m ≤ tabletPlaces (now tablets)) × Climbs (tabletNumber (now tablets)) m × (old < relayPlaces (now relays)) × (new < relayPlaces (now relays)) × (3 * (c + 1) ≤ length (now moves)) ⌝ }
-    ensures { λ _. ⌜ OneSeated (now (relays .entry)) (now (tablets .entry)) (now (tablets .exit)) (now (moves .entry)) (now (moves .exit)) m c j old new ⌝ }
+    requires { ⌜ (j < m) × (m ≤ tabletPlaces (now tablets)) × Climbs (tabletNumber (now tablets)) m
+        × (old < relayPlaces (now relays)) × (new < relayPlaces (now relays)) × (3 * (c + 1) ≤ length (now moves)) ⌝ }
+    ensures { λ _. ⌜ OneSeated (now (relays .entry)) (now (tablets .entry)) (now (tablets .exit))
+        (now (moves .entry)) (now (moves .exit)) m c j old new ⌝ }
 {
     let t = lent::tablet_number(tablets, j);
     let from = lent::relay_number(relays, old);
@@ -44,7 +45,8 @@ fn seat_others(
     others: usize,
 )
     requires { ⌜ Seatable (now relays) (now tablets) (now moves) (now place) (now seat) m others ⌝ }
-    ensures { λ _. ⌜ ((x : ℕ) → OthersSeated x (now (relays .entry)) (now (tablets .entry)) (now (moves .entry)) (now (place .entry)) (now (seat .entry)) (now (tablets .exit)) (now (moves .exit)) m others) ⌝ }
+    ensures { λ _. ⌜ ((x : ℕ) → OthersSeated x (now (relays .entry)) (now (tablets .entry)) (now (moves .entry)) (now (place .entry))
+        (now (seat .entry)) (now (tablets .exit)) (now (moves .exit)) m others) ⌝ }
 {
     let mut c: usize = 0;
     while c < others {
@@ -65,7 +67,8 @@ pub fn enrol(
     moves: &mut [u32],
     t: ring::TabletNumber,
 ) -> rule::Reply
-    ensures { λ reply. ⌜ Answers (after scheme (now (relays .entry)) (now (tablets .entry)) (now (moves .entry)) (Enrol t)) reply (now (relays .entry)) (now (tablets .exit)) (now (moves .exit)) ⌝ }
+    ensures { λ reply. ⌜ Answers (after scheme (now (relays .entry)) (now (tablets .entry)) (now (moves .entry)) (Enrol t))
+        reply (now (relays .entry)) (now (tablets .exit)) (now (moves .exit)) ⌝ }
 {
     let p = newcomer::prepare(scheme, relays, tablets, moves.len() / 3, t);
     let refusal = p.refusal;

@@ -1,20 +1,22 @@
 -- One relay more, and the homes.
---   more-home    a home is one slot further on where the tablet stands past the new relay
+--   more-home    a home is one slot further on where it stands behind the new relay's slot, or there and comes first
 -- Assumes nothing.
+use mathlib.Core.Bool.{true, false}
 use mathlib.Core.List.{List}
 use mathlib.Core.Path.{_≡_, refl}
-use Prim.Native.Nat.{ℕ, _+_, _%_, _≤_, _<_}
+use Prim.Native.Nat.{ℕ, _+_, _%_, _^_, _≤_, _<_}
 use native.Mathlib.Decide.{decLt}
 use native.Mathlib.Omega.{arith}
-use borrow.Author.Tests.{lt-ltb, le-ltb}
 use lib.ListN.{getD}
 use Rattle.lent.specs.Table.{mostRelays}
 use Rattle.order.specs.Home.{keyAt, Home}
+use Rattle.nearest.specs.Nearest.{Enters, itself, round, HomeAt}
 use Rattle.homes.specs.Shift.{skip}
-use Rattle.homes.specs.Homes.{Enters, itself, round, HomeAt, homeMore}
+use Rattle.homes.specs.Homes.{slotAfter, homeMore}
 use Rattle.homes.proofs.Skipping.{Skip, low, high, skip-cases, Skipped, at, off, skipped}
 use Rattle.homes.proofs.Lines.{Line}
 use Rattle.homes.proofs.More.{Grown, new-below, more-line}
+use Rattle.homes.proofs.Ahead.{more-before, more-behind, more-here, old-first, new-first, new-alone}
 
 module _ {position position′ keys keys′ : List ℕ} {n s new q : ℕ} (l : Grown position position′ keys keys′ n s new q) where
   -- a tablet at position t, whose home was h, on this side of the new relay, or past it
@@ -80,17 +82,25 @@ module _ {position position′ keys keys′ : List ℕ} {n s new q : ℕ} (l : G
   enters-next : (h : ℕ) → h ≤ n → Enters (n + 1) (h + 1) ((h + 1) % mostRelays)
   enters-next h b = elim (decLt (h + 1) mostRelays) [ yes d ↦ itself (omega arith) | no d ↦ round (omega (arith, l .few)) (omega (arith, l .few)) ]
 
-  pub more-home : (t h : ℕ) → Home keys n (keyAt t) h → HomeAt keys′ (n + 1) t (homeMore s q t h)
-  unfolding homeMore
-  more-home t h o = go (decLt h s) (decLt s h) (decLt q t)
+  pub more-home : (t : ℕ) → t < 2 ^ 32 → (h : ℕ) → Home keys n (keyAt t) h → HomeAt keys′ (n + 1) t (homeMore keys′ s (slotAfter n s) t h)
+  more-home t small h o = go (decLt h s) (decLt s h) (decLt q t) (decLt 0 n)
     where
       further : s ≤ h → (h ≡ s → q < t) → HomeAt keys′ (n + 1) t ((h + 1) % mostRelays)
       further b c = record { slot = h + 1; home = more-far t h b c o; enters = enters-next h (o .begins .within) }
 
-      go : Dec (h < s) → Dec (s < h) → Dec (q < t) → HomeAt keys′ (n + 1) t (homeMore s q t h)
-      go (yes a) _ _ = rw (lt-ltb h s a) (record { slot = h; home = more-near t h (omega arith) (λ e. absurd (omega arith)) o; enters = itself refl })
-      go (no a) (yes b) _ = rw (le-ltb h s (omega arith), lt-ltb s h b) (further (omega arith) (λ e. absurd (omega arith)))
-      go (no a) (no b) (yes c) = rw (le-ltb h s (omega arith), le-ltb s h (omega arith), lt-ltb q t c) (further (omega arith) (λ e. c))
-      go (no a) (no b) (no c) =
-          rw (le-ltb h s (omega arith), le-ltb s h (omega arith), le-ltb q t (omega arith))
-          (record { slot = h; home = more-near t h (omega arith) (λ e. omega arith) o; enters = itself refl })
+      go : Dec (h < s) → Dec (s < h) → Dec (q < t) → Dec (0 < n) → HomeAt keys′ (n + 1) t (homeMore keys′ s (slotAfter n s) t h)
+      go (yes a) _ _ _ =
+          rw (more-before keys′ s (slotAfter n s) t h a)
+          (record { slot = h; home = more-near t h (omega arith) (λ e. absurd (omega arith)) o; enters = itself refl })
+      go (no a) (yes b) _ _ = rw (more-behind keys′ s (slotAfter n s) t h b) (further (omega arith) (λ e. absurd (omega arith)))
+      go (no a) (no b) (yes c) (yes d) =
+          let e : h ≡ s = omega arith in
+          rw (more-here keys′ s (slotAfter n s) t h true e (old-first l t small (rw e at o) c d)) (further (omega arith) (λ _. c))
+      go (no a) (no b) (yes c) (no d) =
+          let e : h ≡ s = omega arith in
+          rw (more-here keys′ s (slotAfter n s) t h false e (new-alone l t (omega arith)))
+          (record { slot = h + 1; home = more-far t h (omega arith) (λ _. c) o; enters = round (omega (arith, o .begins .within)) (omega (arith, o .begins .within)) })
+      go (no a) (no b) (no c) _ =
+          let e : h ≡ s = omega arith in
+          rw (more-here keys′ s (slotAfter n s) t h false e (new-first l t small (rw e at o) (omega arith)))
+          (record { slot = h; home = more-near t h (omega arith) (λ _. omega arith) o; enters = itself refl })

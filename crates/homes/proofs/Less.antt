@@ -13,8 +13,9 @@ use lib.ListN.{getD}
 use Rattle.lent.specs.Table.{mostRelays}
 use Rattle.order.specs.Keys.{ringKey, slotRelay, Slot, Ordered}
 use Rattle.order.specs.Home.{keyAt, Home}
+use Rattle.nearest.specs.Nearest.{Enters, itself, round, HomeAt}
 use Rattle.homes.specs.Shift.{skip, KeysLess}
-use Rattle.homes.specs.Homes.{Enters, itself, round, HomeAt, homeLess}
+use Rattle.homes.specs.Homes.{homeLess}
 use Rattle.homes.proofs.Skipping.{Skip, low, high, skip-cases, skip-off, skip-one, skip-up, skip-below, Skipped, at, off, skipped}
 use Rattle.homes.proofs.Lines.{Line, key-place, key-lowered}
 

@@ -3,20 +3,23 @@
 --   keys-less-none, -more, -end                            keys lowered
 --   raising-none, raising-more, raising-end                keys raised, and one put among them
 --   moved-none, moved-more, moved-end                      homes moved
+--   puts-in                                                keys and homes with one relay more
 -- Assumes nothing.
 use mathlib.Core.List.{List}
-use mathlib.Core.Path.{_≡_, refl, sym, ap, _∙_}
+use mathlib.Core.Path.{_≡_, refl, sym, ap, _∙_, subst}
 use Prim.Native.Nat.{ℕ, _+_, _≤_, _<_}
 use native.Mathlib.Nat.{not-suc-le-zero}
 use native.Mathlib.Omega.{arith}
 use borrow.Author.Count.{below-more}
 use lib.ListN.{length, getD, set, length-set}
 use lib.Seq.{getD-set-same, getD-set-other}
+use Rattle.ring.specs.Scheme.{Positions}
 use Rattle.lent.specs.Table.{mostRelays}
 use Rattle.lent.proofs.Loops.{stored}
 use Rattle.order.specs.Keys.{slotRelay, Slot}
+use Rattle.order.specs.Home.{keyAt, Home}
 use Rattle.homes.specs.Shift.{skip, raised, lowered, KeysLess, KeysMore}
-use Rattle.homes.specs.Homes.{HomesMoved}
+use Rattle.homes.specs.Homes.{HomesMoved, slotAfter, moreAt, PutIn}
 use Rattle.homes.proofs.Skipping.{skip-off, skip-one}
 
 -- ---- the slot of a relay
@@ -90,3 +93,15 @@ moved-more f {j} {v} {before} {after} o h e = record {
 
 pub moved-end : (f : ℕ → ℕ → ℕ) {j m : ℕ} {before after : List ℕ} → m ≤ j → j ≤ m → HomesMoved f j before after → HomesMoved f m before after
 moved-end f a b o = record { size = o .size; moved = λ t h. o .moved t (omega arith); rest = λ t h. o .rest t (omega arith) }
+
+-- ---- both
+
+pub puts-in : {p : Positions} {ts keys more home home′ : List ℕ} {n m at q s k : ℕ} → Home keys n (keyAt q + at) s
+    → KeysMore n s at (keyAt q + at) keys more → k ≡ slotAfter n s → HomesMoved (moreAt p ts more s k) m home home′
+    → PutIn p ts n m at q keys home (record { keys = more; home = home′ })
+puts-in {p} {ts} {more = more} {home} {home′} {m = m} {s = s} o t e d = record {
+  slot = s;
+  from = o;
+  longer = t;
+  moved = subst (λ (k : ℕ). HomesMoved (moreAt p ts more s k) m home home′) e d;
+}

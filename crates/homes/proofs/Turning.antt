@@ -16,9 +16,10 @@ use Rattle.lent.proofs.Loops.{array-at}
 use Rattle.order.specs.Keys.{ringKey, slotRelay, Ordered}
 use Rattle.order.specs.Home.{keyAt, Home}
 use Rattle.survey.specs.Seats.{HomeByte, Surveyed}
+use Rattle.nearest.specs.Nearest.{itself, round, HomeAt}
 use Rattle.homes.specs.declared.Around.{Around}
 use Rattle.homes.specs.Shift.{skip}
-use Rattle.homes.specs.Homes.{itself, round, HomeAt, Homes, TakenOut, PutIn}
+use Rattle.homes.specs.Homes.{Homes, TakenOut, PutIn}
 use Rattle.homes.proofs.Skipping.{skip-below}
 use Rattle.homes.proofs.Less.{Lessened, less-ordered, less-home}
 use Rattle.homes.proofs.More.{Grown, more-ordered}
@@ -73,7 +74,7 @@ put-homes {p} {rs} {own} {ts} {n} {m} {at} {q} {keys} {home = home} {r = r} few 
   ordered = more-ordered grown;
   size = t .moved .size ∙ v .seats .homes;
   small = smalls;
-  from = λ j h. rw (t .moved .moved j h) (more-home grown (p .tabletAt (tabletNumber ts j)) (getD home j 0) (own-home (v .seats .from j h)));
+  from = λ j h. rw (t .moved .moved j h) (more-home grown (p .tabletAt (tabletNumber ts j)) (smalls j h) (getD home j 0) (own-home (v .seats .from j h)));
 }
   where
     grown : Grown (relayPositions p rs n) (relayPositions p own (n + 1)) keys (r .keys) n (t .slot) at q

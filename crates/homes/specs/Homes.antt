@@ -7,23 +7,14 @@ use Prim.Native.Nat.{ℕ, _+_, _-_, _%_, _^_, _≤_, _<_}
 use lib.Dec.{ltb}
 use lib.ListN.{length, getD}
 use Rattle.ring.specs.Scheme.{Positions}
+use Rattle.ring.specs.Clockwise.{sooner}
 use Rattle.lent.specs.Table.{mostRelays, mostTablets, tabletNumber, TabletsIn}
 use Rattle.lent.specs.Placing.{relayPositions}
 use Rattle.order.specs.Keys.{slotRelay, KeysRise, Ordered}
 use Rattle.order.specs.Home.{keyAt, Home}
+use Rattle.nearest.specs.Nearest.{inSlots, HomeAt}
 use Rattle.homes.specs.Shift.{KeysLess, KeysMore}
 use Rattle.homes.specs.declared.Around.{Around}
-
--- a walk from a home of n slots goes from slot x: the home itself, or the first slot where the home is past the last
-pub data Enters (n home x : ℕ) : Type 0 where
-  itself : x ≡ home → Enters n home x
-  round : home ≡ n → x ≡ 0 → Enters n home x
-
--- a walk from position q goes from slot x
-pub record HomeAt (keys : List ℕ) (n q x : ℕ) : Type 0 where
-  pub slot : ℕ
-  pub home : Home keys n (keyAt q) slot
-  pub enters : Enters n slot x
 
 -- the n relays in ring order, and of each of the first m tablets the slot that its walk goes from
 pub record Homes (p : Positions) (rs ts : List ℕ) (n m : ℕ) (keys home : List ℕ) : Type 0 where
@@ -46,13 +37,18 @@ homeLess s h = cond (ltb s h) (h - 1) h
 abbrev pub lessAt : ℕ → ℕ → ℕ → ℕ
 lessAt s t h = homeLess s h
 
--- ---- a relay more, at slot s and position q: whoever stands past it has a home further on
+-- ---- a relay more, at slot s: whose home was there comes to the new relay first, or to the one that was there before, at slot k now
 
-unfoldable pub homeMore : ℕ → ℕ → ℕ → ℕ → ℕ
-homeMore s q t h = cond (ltb h s) h (cond (ltb s h) ((h + 1) % mostRelays) (cond (ltb q t) ((h + 1) % mostRelays) h))
+-- the slot behind slot s of n + 1, round the top of the ring
+unfoldable pub slotAfter : ℕ → ℕ → ℕ
+slotAfter n s = cond (ltb s n) (s + 1) 0
 
-abbrev pub moreAt : Positions → List ℕ → ℕ → ℕ → ℕ → ℕ → ℕ
-moreAt p ts s q t h = homeMore s q (p .tabletAt (tabletNumber ts t)) h
+unfoldable pub homeMore : List ℕ → ℕ → ℕ → ℕ → ℕ → ℕ
+homeMore keys s k t h =
+    cond (ltb h s) h (cond (ltb s h) ((h + 1) % mostRelays) (cond (sooner (inSlots keys) t k s) ((h + 1) % mostRelays) h))
+
+abbrev pub moreAt : Positions → List ℕ → List ℕ → ℕ → ℕ → ℕ → ℕ → ℕ
+moreAt p ts keys s k t h = homeMore keys s k (p .tabletAt (tabletNumber ts t)) h
 
 -- ---- both
 
@@ -77,4 +73,4 @@ pub record PutIn (p : Positions) (ts : List ℕ) (n m at q : ℕ) (keys home : L
   pub slot : ℕ
   pub from : Home keys n (keyAt q + at) slot
   pub longer : KeysMore n slot at (keyAt q + at) keys (r .keys)
-  pub moved : HomesMoved (moreAt p ts slot q) m home (r .home)
+  pub moved : HomesMoved (moreAt p ts (r .keys) slot (slotAfter n slot)) m home (r .home)

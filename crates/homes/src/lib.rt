@@ -2,13 +2,14 @@
 // anew: the other relays keep their order, and a home moves by one slot at most.
 ghost use mathlib.Core.Path.{_≡_};
 ghost use Prim.Native.Nat.{ℕ, _+_, _-_, _^_, _<_, _≤_};
-ghost use lib.Dec.{ltb};
 ghost use lib.ListN.{length, getD};
 ghost use Rattle.ring.specs.Scheme.{positions};
+ghost use Rattle.ring.specs.Clockwise.{sooner};
 ghost use Rattle.lent.specs.Table.{mostRelays, mostTablets, tabletPlaces, tabletNumber, TabletsIn};
 ghost use Rattle.order.specs.Keys.{slotRelay, Slot};
+ghost use Rattle.nearest.specs.Nearest.{inSlots};
 ghost use Rattle.homes.specs.Shift.{skip, raised, lowered, KeysLess, KeysMore};
-ghost use Rattle.homes.specs.Homes.{HomesMoved, homeLess, lessAt, homeMore, moreAt, TakenOut, PutsIn, PutIn};
+ghost use Rattle.homes.specs.Homes.{HomesMoved, homeLess, lessAt, slotAfter, homeMore, moreAt, TakenOut, PutsIn, PutIn};
 
 // The keys in ring order, and for each tablet the slot that its walk goes from.
 pub struct Around {
@@ -121,29 +122,53 @@ fn keys_more(keys: &[u64; 256], n: usize, s: usize, at: usize, x: u64) -> [u64; 
     more
 }
 
-// Does tablet j stand past position q?
-fn stands_past(scheme: u32, tablets: &[u32], j: usize, q: ring::Position) -> bool
-    requires { ⌜ j < tabletPlaces (now tablets) ⌝ }
-    ensures { λ r. ⌜ r ≡ ltb (q .0) (positions scheme .tabletAt (tabletNumber (now (tablets .entry)) j)) ⌝ }
+// The slot behind slot s of n + 1, round the top of the ring.
+fn slot_after(n: usize, s: usize) -> usize
+    requires { ⌜ n < mostRelays ⌝ }
+    ensures { λ r. ⌜ (r ≡ slotAfter n s) × (r < mostRelays) ⌝ }
 {
-    let p = ring::tablet_at(scheme, lent::tablet_number(tablets, j));
-    q.0 < p.0
+    if s < n { s + 1 } else { 0 }
 }
 
-// The home of tablet j, which was h, with one relay more at slot s and position q.
-fn home_more(scheme: u32, tablets: &[u32], j: usize, s: u8, q: ring::Position, h: u8) -> u8
-    requires { ⌜ j < tabletPlaces (now tablets) ⌝ }
-    ensures { λ r. ⌜ r ≡ homeMore s (q .0) (positions scheme .tabletAt (tabletNumber (now (tablets .entry)) j)) h ⌝ }
+// Does tablet j come to slot k ahead of slot s?
+fn comes_first(
+    scheme: u32,
+    tablets: &[u32],
+    j: usize,
+    keys: &[u64; 256],
+    k: usize,
+    s: usize,
+) -> bool
+    requires { ⌜ (j < tabletPlaces (now tablets)) × (k < mostRelays) × (s < mostRelays) ⌝ }
+    ensures { λ r. ⌜ r ≡ sooner (inSlots (now (keys .entry))) (positions scheme .tabletAt (tabletNumber (now (tablets .entry)) j)) k s ⌝ }
 {
-    let next = ((h as usize + 1) % 256) as u8;
-    if h == s {
-        let past = stands_past(scheme, tablets, j, q);
+    let p = ring::tablet_at(scheme, lent::tablet_number(tablets, j));
+    nearest::sooner(keys, k, s, p)
+}
+
+// The home of tablet j, which was h. The new relay is at slot s, and the one that was there before is at slot k now.
+fn home_more(
+    scheme: u32,
+    tablets: &[u32],
+    j: usize,
+    keys: &[u64; 256],
+    s: usize,
+    k: usize,
+    h: u8,
+) -> u8
+    requires { ⌜ (j < tabletPlaces (now tablets)) × (s < mostRelays) × (k < mostRelays) ⌝ }
+    ensures { λ r. ⌜ r ≡ homeMore (now (keys .entry)) s k (positions scheme .tabletAt (tabletNumber (now (tablets .entry)) j)) h ⌝ }
+{
+    let was = h as usize;
+    let next = ((was + 1) % 256) as u8;
+    if was == s {
+        let past = comes_first(scheme, tablets, j, keys, k, s);
         if past {
             return next;
         }
         return h;
     }
-    if s < h { next } else { h }
+    if s < was { next } else { h }
 }
 
 fn homes_more(
@@ -151,15 +176,17 @@ fn homes_more(
     tablets: &[u32],
     home: &mut [u8; 4096],
     m: usize,
-    s: u8,
-    q: ring::Position,
+    keys: &[u64; 256],
+    s: usize,
+    k: usize,
 )
-    requires { ⌜ TabletsIn (now tablets) m × (length (now home) ≡ mostTablets) ⌝ }
-    ensures { λ _. ⌜ HomesMoved (moreAt (positions scheme) (now (tablets .entry)) s (q .0)) m (now (home .entry)) (now (home .exit)) ⌝ }
+    requires { ⌜ TabletsIn (now tablets) m × (length (now home) ≡ mostTablets) × (s < mostRelays) × (k < mostRelays) ⌝ }
+    ensures { λ _. ⌜ HomesMoved (moreAt (positions scheme) (now (tablets .entry)) (now (keys .entry)) s k) m
+        (now (home .entry)) (now (home .exit)) ⌝ }
 {
     let mut j: usize = 0;
     while j < m {
-        home[j] = home_more(scheme, tablets, j, s, q, home[j]);
+        home[j] = home_more(scheme, tablets, j, keys, s, k, home[j]);
         j += 1;
     }
 }
@@ -182,7 +209,7 @@ pub fn put_in(
     let s = order::home::advance(&keys, n, 0, x);
     let more = keys_more(&keys, n, s, at, x);
     let mut home = around.home;
-    homes_more(scheme, tablets, &mut home, m, s as u8, q);
+    homes_more(scheme, tablets, &mut home, m, &more, s, slot_after(n, s));
     Around {
         keys: more,
         home: home,

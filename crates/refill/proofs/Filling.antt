@@ -20,7 +20,8 @@ use Rattle.survey.proofs.Leading.{leads-at}
 use Rattle.survey.proofs.Led.{led}
 use Rattle.meaning.proofs.Choice.{First}
 use Rattle.meaning.proofs.Run.{run-first}
-use Rattle.homes.specs.Homes.{Enters, itself, round, HomeAt, Homes}
+use Rattle.nearest.specs.Nearest.{Enters, itself, round, HomeAt}
+use Rattle.homes.specs.Homes.{Homes}
 use Rattle.refill.specs.Refilled.{Refills, Refilled}
 
 -- the first j tablets are placed by the rule: the relays in ring order, the room left, the row, and each tablet's relay

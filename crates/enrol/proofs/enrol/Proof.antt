@@ -3,7 +3,7 @@
 use mathlib.Core.Path.{refl, sym}
 use native.Mathlib.Omega.{arith}
 use Rattle.look.proofs.Refusing.{refused-answers}
-use Rattle.enrol.proofs.Planning.{test-false, test-true}
+use Rattle.newcomer.proofs.Planning.{test-false, test-true}
 use Rattle.enrol.proofs.Committing.{place-still, enrolled-answers}
 use borrow.Author.Needs.{needs}
 use Rattle.enrol.proofs.enrol.Statement.{statement}

@@ -8,10 +8,10 @@ use Rattle.homes.proofs.homes_more.Statement.{statement}
 use Rattle.homes.proofs.homes_more.Tie as tie
 
 abbrev Inv-loop : tie.InvT-loop
-Inv-loop scheme tablets home₀ m s q j₀ home j = (j ≤ m) × HomesMoved (moreAt (positions scheme) tablets s (q .0)) j home₀ home
+Inv-loop scheme tablets home₀ m keys s k j₀ home j = (j ≤ m) × HomesMoved (moreAt (positions scheme) tablets keys s k) j home₀ home
 
 abbrev μ-loop : tie.MeasureT-loop
-μ-loop scheme tablets home₀ m s q j₀ home j = m - j
+μ-loop scheme tablets home₀ m keys s k j₀ home j = m - j
 
 loop-holds : tie.Need-loop-holds Inv-loop μ-loop
 loop-holds c = (omega arith, moved-none _ _)

@@ -1,9 +1,9 @@
--- `enrol::newcomer::opens` meets its contract.
+-- `newcomer::opens` meets its contract.
 -- Assumes nothing.
 use native.Mathlib.Omega.{arith}
 use borrow.Author.Tests.{lt-ltb, le-ltb}
-use Rattle.enrol.proofs.newcomer.opens.Statement.{statement}
-use Rattle.enrol.proofs.newcomer.opens.Tie as tie
+use Rattle.newcomer.proofs.opens.Statement.{statement}
+use Rattle.newcomer.proofs.opens.Tie as tie
 
 returns : tie.Need-returns
 returns c = rw (le-ltb 0 (c .before .args .n) (omega (arith, c .if1 .taken)))

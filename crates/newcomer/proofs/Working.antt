@@ -34,7 +34,7 @@ use Rattle.rule.proofs.Listing.{Chain}
 use Rattle.rule.proofs.Outcomes.{enrol-chain, enrol-after, enrol-moves, enrol-relay, enrol-passed}
 use Rattle.lent.specs.Table.{mostRelays, relayNumber, relayLimit, tabletNumber, tabletRelay, tabletPlaces}
 use Rattle.order.specs.Keys.{slotRelay}
-use Rattle.order.specs.Home.{keyAt, Home}
+use Rattle.nearest.specs.Nearest.{Nearest}
 use Rattle.survey.specs.declared.Survey.{Survey}
 use Rattle.survey.specs.Row.{slotRoom, Leads, Row}
 use Rattle.survey.proofs.Leading.{leads-at}
@@ -47,11 +47,11 @@ use Rattle.meaning.proofs.Right.{Rises, right-room}
 use Rattle.slots.specs.Slots.{slotAt, stepsTo, roundNumber, roundLimit, round}
 use Rattle.slots.proofs.Steps.{slot-inside, steps-inside, slot-steps, steps-slot, ahead-steps}
 use Rattle.slots.proofs.Lists.{upTo-places, first-places}
-use Rattle.slots.proofs.Round.{order-round}
 use Rattle.look.specs.Start.{Start}
 use Rattle.look.proofs.Refusing.{found, start-rises, start-ring}
 use Rattle.chain.specs.Chain.{linkAt, chainOf, Chained}
-use Rattle.enrol.specs.Enrol.{newcomerRefusal, Seeks, othersOf}
+use Rattle.newcomer.specs.Newcomer.{newcomerRefusal, Seeks, othersOf}
+use Rattle.newcomer.proofs.Homing.{order-home}
 
 -- ---- totals
 
@@ -165,8 +165,11 @@ module _ {s : ℕ} {rs ts : List ℕ} {n m : ℕ} {v : Survey} (b : Start s rs t
 
       -- ---- the turn
 
-      in-ring : h ≤ n
-      in-ring = k .home .begins .within
+      pub home-inside : h < n
+      home-inside = omega (arith, k .home .inside, some-relay)
+
+      pub in-ring : h ≤ n
+      in-ring = omega (arith, k .home .inside)
 
       abbrev d : ℕ
       d = stepsTo n h stop
@@ -206,7 +209,7 @@ module _ {s : ℕ} {rs ts : List ℕ} {n m : ℕ} {v : Survey} (b : Start s rs t
 
       module _ (small : p .tabletAt x < 2 ^ 32) where
         the-order : order p x (relaysIn rs n) ≡ round rs keys n h n
-        the-order = order-round p rs n (rises .relaysFit .few) (rises .relays) keys (b .surveyed .ordered) x small h (k .home)
+        the-order = order-home p rs n (rises .relaysFit .few) (rises .relays) keys (b .surveyed .ordered) x small h (k .home)
 
         abbrev f : Entry
         f = entry (roundNumber rs keys n h d) (roundLimit rs keys n h d)
@@ -272,12 +275,13 @@ module _ {s : ℕ} {rs ts : List ℕ} {n m : ℕ} {v : Survey} (b : Start s rs t
 
 -- ---- the search for home and stop
 
-pub seeks : (s : ℕ) {n x q h stop : ℕ} {keys room next : List ℕ} {i : ℕ} {opens : Bool} → n ≤ mostRelays → Row keys room n 0 next → q ≡ positions s .tabletAt x → q < 2 ^ 32 → Home keys n (keyAt q) h
-    → stop ≡ getD next (h % mostRelays) 0 → i ≡ slotRelay keys stop → opens ≡ (ltb 0 n && ltb 0 (getD room i 0)) → Seeks (positions s) n keys room x h stop opens
+pub seeks : (s : ℕ) {n x q h stop : ℕ} {keys room next : List ℕ} {i : ℕ} {opens : Bool} → n ≤ mostRelays → Row keys room n 0 next
+    → q ≡ positions s .tabletAt x → q < 2 ^ 32 → Nearest keys n q h → stop ≡ getD next (h % mostRelays) 0 → i ≡ slotRelay keys stop
+    → opens ≡ (ltb 0 n && ltb 0 (getD room i 0)) → Seeks (positions s) n keys room x h stop opens
 seeks s {n = n} {h = h} {keys = keys} {room = room} few row eq word home es ei eo =
     record {
-      home = subst (λ (z : ℕ). Home keys n (keyAt z) h) eq home;
-      leads = subst (λ (z : ℕ). Leads keys room n h z) (sym es) (leads-at h few (home .begins .within) row);
+      home = subst (λ (z : ℕ). Nearest keys n z h) eq home;
+      leads = subst (λ (z : ℕ). Leads keys room n h z) (sym es) (leads-at h few (omega (arith, home .inside)) row);
       small = rw (← eq) word;
       opens-is = unfold slotRoom in (eo ∙ ap (λ (z : ℕ). ltb 0 n && ltb 0 (getD room z 0)) ei);
     }

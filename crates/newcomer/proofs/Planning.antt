@@ -31,9 +31,9 @@ use Rattle.look.specs.Start.{Start}
 use Rattle.look.proofs.Refusing.{start-rises, start-ring, number-refused, limits-refused, list-refused, all-passed}
 use Rattle.look.proofs.Stays.{tablets-whole, tablets-zeros, relays-stay}
 use Rattle.chain.specs.Chain.{From, Chained}
-use Rattle.enrol.specs.declared.newcomer.Enrolment.{Enrolment}
-use Rattle.enrol.specs.Enrol.{newcomerRefusal, Seeks, othersOf, Prepared}
-use Rattle.enrol.proofs.Working.{number-bars, shut-small, open-enough, stop-inside, steps-passed, others-moves, others-above, first-relay, others-after, length-others}
+use Rattle.newcomer.specs.declared.Enrolment.{Enrolment}
+use Rattle.newcomer.specs.Newcomer.{newcomerRefusal, Seeks, othersOf, Prepared}
+use Rattle.newcomer.proofs.Working.{number-bars, shut-small, open-enough, stop-inside, in-ring, home-inside, steps-passed, others-moves, others-above, first-relay, others-after, length-others}
 
 -- a test that came out false
 pub test-false : {b : Bool} (r : Refusal) → b ≡ isDone r → not b ≡ true → isDone r ≡ false
@@ -62,8 +62,17 @@ bars-passed x there places m h =
     let ne : x ≡ 0 → ⊥ = eqb-false x 0 (a .0) in
     record { some-number = omega arith; new = b .0; unused = leb-false places m (c .0) }
 
-module _ {s : ℕ} {rs ts : List ℕ} {n m : ℕ} {v : Survey} (b : Start s rs ts n m v) (t : TabletNumber) {at : ℕ} (spot : Spot (tabletNumber ts) m (t .0) at)
-    {there : Bool} (et : there ≡ has (tabletsIn ts m) (t .0)) {places : ℕ} (ep : places ≡ tabletPlaces ts) where
+-- what is known of the newcomer once the tables are right: its place, whether it is there, and how many places there are
+pub record Asked (s : ℕ) (rs ts : List ℕ) (n m : ℕ) (v : Survey) (t : TabletNumber) (at : ℕ) (there : Bool) (places : ℕ) : Type 0 where
+  pub start : Start s rs ts n m v
+  pub spot : Spot (tabletNumber ts) m (t .0) at
+  pub known : there ≡ has (tabletsIn ts m) (t .0)
+  pub all : places ≡ tabletPlaces ts
+
+module _ {s : ℕ} {rs ts : List ℕ} {n m : ℕ} {v : Survey} {t : TabletNumber} {at : ℕ} {there : Bool} {places : ℕ} (a : Asked s rs ts n m v t at there places) where
+  abbrev b : Start s rs ts n m v
+  b = a .start
+
   rises : Rises (positions s) rs ts n m
   rises = start-rises b
 
@@ -71,7 +80,7 @@ module _ {s : ℕ} {rs ts : List ℕ} {n m : ℕ} {v : Survey} (b : Start s rs t
   bar = newcomerRefusal (t .0) there places m
 
   bars : (ms : List ℕ) → firstBar (Calls.wrongNumbers (lentOf s rs ts ms) (ringOf rs ts) (Enrol t)) ≡ bar
-  bars ms = number-bars b t ms there et ∙ ap (λ (z : ℕ). newcomerRefusal (t .0) there z m) (sym ep)
+  bars ms = number-bars b t ms there (a .known) ∙ ap (λ (z : ℕ). newcomerRefusal (t .0) there z m) (sym (a .all))
 
   pub barred-plan : {ms : List ℕ} (p : Enrolment) (r : Refusal) → r ≡ bar → p .refusal ≡ r → isDone r ≡ false → Prepared s rs ts ms t p
   barred-plan {ms} p r e ep n = refused-plan p r ep n (number-refused s rs ts ms (Enrol t) b r (bars ms ∙ sym e) n)
@@ -88,15 +97,15 @@ module _ {s : ℕ} {rs ts : List ℕ} {n m : ℕ} {v : Survey} (b : Start s rs t
     shut-plan {ms} p e o = refused-plan p LimitsTooSmall e refl (limits-refused s rs ts ms (Enrol t) b (numbers-fine ms) (shut-small b t k o))
 
     module _ (o : opens ≡ true) where
-      pub turn-from : From (positions s) rs ts n m (v .keys) (v .last) h stop (t .0)
-      turn-from = record { rises = rises; ordered = b .surveyed .ordered; greatest = b .surveyed .greatest; home = k .home; inside = stop-inside b t k o }
+      pub turn-from : From (positions s) rs ts n m (v .keys) (v .last) h stop
+      turn-from = record { rises = rises; ordered = b .surveyed .ordered; greatest = b .surveyed .greatest; home = home-inside b t k o; inside = stop-inside b t k o }
 
       module _ {c d : ℕ} {place seat : List ℕ} (w : Chained rs ts n m (v .keys) h stop (t .0) c d place seat) where
         small : positions s .tabletAt (t .0) < 2 ^ 32
         small = k .small
 
         the-moves : moves (positions s) (ringOf rs ts) (Enrol t) ≡ othersOf (t .0) rs ts place seat c
-        the-moves = others-moves b t k o small (free .some-number) (sym et ∙ free .new) w
+        the-moves = others-moves b t k o small (free .some-number) (sym (a .known) ∙ free .new) w
 
         pub short-plan : {ms : List ℕ} (p : Enrolment) → p .refusal ≡ MoveListTooShort → length ms / 3 < c → Prepared s rs ts ms t p
         unfolding isDone
@@ -112,31 +121,31 @@ module _ {s : ℕ} {rs ts : List ℕ} {n m : ℕ} {v : Survey} (b : Start s rs t
               worked = λ _. rw (em, ea, ec)
                   (record {
                     seatable = record {
-                      few = omega (arith, w .few, w .steps, steps-inside n h (k .home .begins .within) stop (stop-inside b t k o), rises .relaysFit .few);
+                      few = omega (arith, w .few, w .steps, steps-inside n h (in-ring b t k o) stop (stop-inside b t k o), rises .relaysFit .few);
                       tablets = rises .tabletsFit .there;
                       climbs = record { up = rises .tablets .up };
                       places = w .places;
-                      relays = λ i a. omega (arith, w .relays i a, rises .relaysFit .there);
+                      relays = λ i l. omega (arith, w .relays i l, rises .relaysFit .there);
                       list = omega arith;
                     };
-                    short = omega (arith, w .steps, steps-inside n h (k .home .begins .within) stop (stop-inside b t k o), rises .relaysFit .few);
-                    above = others-above b t k o small (free .some-number) (sym et ∙ free .new) w;
-                    unused = omega (arith, free .unused);
-                    place = record { within = spot .within; below = spot .below; above = λ i a q. above-at i a q };
+                    short = omega (arith, w .steps, steps-inside n h (in-ring b t k o) stop (stop-inside b t k o), rises .relaysFit .few);
+                    above = others-above b t k o small (free .some-number) (sym (a .known) ∙ free .new) w;
+                    unused = omega (arith, free .unused, a .all);
+                    place = record { within = a .spot .within; below = a .spot .below; above = above-at };
                     whole = tablets-whole b;
                     zeros = tablets-zeros b;
-                    passed = steps-passed b t k o small (free .some-number) (sym et ∙ free .new) ∙ sym (w .steps);
+                    passed = steps-passed b t k o small (free .some-number) (sym (a .known) ∙ free .new) ∙ sym (w .steps);
                     moves = the-moves;
-                    relay = first-relay b t k o small (free .some-number) (sym et ∙ free .new) w;
-                    tablets = others-after b t k o small (free .some-number) (sym et ∙ free .new) w;
+                    relay = first-relay b t k o small (free .some-number) (sym (a .known) ∙ free .new) w;
+                    tablets = others-after b t k o small (free .some-number) (sym (a .known) ∙ free .new) w;
                     relays = relays-still;
                   });
             }
           where
             above-at : (i : ℕ) → at ≤ i → i < m → t .0 < tabletNumber ts i
-            above-at i a q =
-                let ne : tabletNumber ts i ≡ t .0 → ⊥ = λ e. true-false (sym (has-place (tabletNumber ts) (tabletRelay ts) m (t .0) i q e) ∙ sym et ∙ free .new) in
-                omega (arith, spot .from i a q)
+            above-at i l q =
+                let ne : tabletNumber ts i ≡ t .0 → ⊥ = λ e. true-false (sym (has-place (tabletNumber ts) (tabletRelay ts) m (t .0) i q e) ∙ sym (a .known) ∙ free .new) in
+                omega (arith, a .spot .from i l q)
 
             relays-still : rs ≡ relayTable (length rs) (Calls.after (positions s) (ringOf rs ts) (Enrol t))
             relays-still = relays-stay b (Calls.after (positions s) (ringOf rs ts) (Enrol t)) (unfold Calls.after edited in (ap (λ (g : Ring). g .relays) (start-ring b)))

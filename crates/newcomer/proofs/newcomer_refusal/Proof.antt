@@ -1,10 +1,10 @@
--- `enrol::newcomer::newcomer_refusal` meets its contract: each test in its turn.
+-- `newcomer::newcomer_refusal` meets its contract: each test in its turn.
 -- Assumes nothing.
 use borrow.Author.Tests.{eq-eqb, ne-eqb, le-leb, lt-leb}
 use Rattle.rule.specs.Refusals.{firstBar}
-use Rattle.enrol.specs.Enrol.{newcomerRefusal}
-use Rattle.enrol.proofs.newcomer.newcomer_refusal.Statement.{statement}
-use Rattle.enrol.proofs.newcomer.newcomer_refusal.Tie as tie
+use Rattle.newcomer.specs.Newcomer.{newcomerRefusal}
+use Rattle.newcomer.proofs.newcomer_refusal.Statement.{statement}
+use Rattle.newcomer.proofs.newcomer_refusal.Tie as tie
 
 returns : tie.Need-returns
 unfolding newcomerRefusal firstBar

@@ -8,9 +8,8 @@ ghost use Prim.Native.Nat.{ℕ, _/_, _≤_};
 ghost use lib.ListN.{length};
 ghost use Rattle.ring.specs.Scheme.{positions};
 ghost use Rattle.lent.specs.Table.{mostRelays};
-ghost use Rattle.order.specs.Keys.{KeysRise};
 ghost use Rattle.survey.specs.Row.{Row};
-ghost use Rattle.enrol.specs.Enrol.{newcomerRefusal, Seeks, Prepared};
+ghost use Rattle.newcomer.specs.Newcomer.{newcomerRefusal, Seeks, Prepared};
 
 fn newcomer_refusal(t: ring::TabletNumber, there: bool, places: usize, m: usize) -> rule::Refusal
     ensures { λ r. ⌜ r ≡ newcomerRefusal (t .0) there places m ⌝ }
@@ -43,11 +42,12 @@ fn seek(
     next: &[u8; 256],
     t: ring::TabletNumber,
 ) -> Sought
-    requires { ⌜ (n ≤ mostRelays) × KeysRise n (now keys) × Row (now keys) (now room) n 0 (now next) ⌝ }
-    ensures { λ r. ⌜ Seeks (positions scheme) n (now (keys .entry)) (now (room .entry)) (t .0) (r .home) (r .stop) (r .opens) ⌝ }
+    requires { ⌜ (n ≤ mostRelays) × Row (now keys) (now room) n 0 (now next) ⌝ }
+    ensures { λ r. ⌜ Seeks (positions scheme) n (now (keys .entry)) (now (room .entry)) (t .0)
+        (r .home) (r .stop) (r .opens) ⌝ }
 {
     let p = ring::tablet_at(scheme, t);
-    let home = order::home::advance(keys, n, 0, (p.0 as u64) * 4294967296);
+    let home = nearest::home(keys, n, p);
     let stop = survey::led_to(next, home);
     let i = order::slot_relay(keys, stop);
     Sought {
@@ -91,14 +91,15 @@ fn no_enrolment(refusal: rule::Refusal) -> Enrolment
 }
 
 // For a move list of so many places.
-pub(crate) fn prepare(
+pub fn prepare(
     scheme: u32,
     relays: &[u32],
     tablets: &[u32],
     places: usize,
     t: ring::TabletNumber,
 ) -> Enrolment
-    ensures { λ r. ⌜ ((ms : List ℕ) → places ≡ length ms / 3 → Prepared scheme (now (relays .entry)) (now (tablets .entry)) ms t r) ⌝ }
+    ensures { λ r. ⌜ ((ms : List ℕ) → places ≡ length ms / 3
+        → Prepared scheme (now (relays .entry)) (now (tablets .entry)) ms t r) ⌝ }
 {
     let l = look::look(scheme, relays, tablets);
     let first = l.refusal;
