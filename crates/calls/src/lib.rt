@@ -1,5 +1,6 @@
 // The six calls as one, which also brings the lent tally up to date (document 01, "Replies", "Sheet, balance, tally").
-ghost use Rattle.look.specs.Promise.{after, Answers};
+ghost use Rattle.promise.specs.Promise.{Answers};
+ghost use Rattle.look.specs.Promise.{lists, after};
 ghost use Rattle.calls.specs.Promise.{Keeps};
 
 // The call on the tables and the move list.
@@ -10,7 +11,8 @@ fn on_tables(
     moves: &mut [u32],
     c: rule::Call,
 ) -> rule::Reply
-    ensures { λ reply. ⌜ Answers (after scheme (now (relays .entry)) (now (tablets .entry)) (now (moves .entry)) c) reply (now (relays .exit)) (now (tablets .exit)) (now (moves .exit)) ⌝ }
+    ensures { λ reply. ⌜ Answers (after scheme (now (relays .entry)) (now (tablets .entry)) (now (moves .entry)) c)
+        reply (lists (now (relays .exit)) (now (tablets .exit)) (now (moves .exit))) ⌝ }
 {
     match c {
         rule::Call::Add(r, limit) => relay_calls::add(scheme, relays, tablets, moves, r, limit),

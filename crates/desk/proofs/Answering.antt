@@ -4,11 +4,11 @@
 --   answers-call    one to a call
 -- Assumes nothing.
 use mathlib.Core.List.{List}
-use mathlib.Core.Path.{_≡_, refl, ap, _∙_}
+use mathlib.Core.Path.{_≡_, refl, ap, ap₂}
 use Prim.Native.Nat.{ℕ}
 use Rattle.rule.specs.declared.Call.{Call}
 use Rattle.rule.specs.declared.Reply.{Reply}
-use Rattle.look.specs.Promise.{after}
+use Rattle.look.specs.Promise.{Lists, after}
 use Rattle.calls.specs.Promise.{Keeps}
 use Rattle.text.specs.Puts.{Puts}
 use Rattle.answer.specs.Text.{answerText}
@@ -32,6 +32,11 @@ module _ {s : ℕ} {rs ts ms tally : List ℕ} {c : Call} {r : Reply} {rs′ ts�
   unfolding called
   answers-call k p =
       let a = k .answers in
-      let reply : Reply = after s rs ts ms c .reply in
-      let e : answerText r ms′ ≡ answerText reply (after s rs ts ms c .moves) = ap (λ (x : Reply). answerText x ms′) (a .reply) ∙ ap (answerText reply) (a .moves) in
-      record { answer = says-text (puts-text e p); relays = a .relays; tablets = a .tablets; moves = a .moves }
+      let e : answerText r ms′ ≡ answerText (after s rs ts ms c .reply) (after s rs ts ms c .lent .moves) =
+      ap₂ (λ (x : Reply) (l : Lists ℕ). answerText x (l .moves)) (a .reply) (a .lent) in
+      record {
+        answer = says-text (puts-text e p);
+        relays = ap (λ (l : Lists ℕ). l .relays) (a .lent);
+        tablets = ap (λ (l : Lists ℕ). l .tablets) (a .lent);
+        moves = ap (λ (l : Lists ℕ). l .moves) (a .lent);
+      }

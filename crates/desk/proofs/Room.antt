@@ -37,7 +37,7 @@ first-room rs ts ms l names.Other h = record { room = omega arith }
 
 under-room : (s : ℕ) (rs ts ms : List ℕ) (m : lines.Line) → Roomy (under s rs ts ms m)
 unfolding under called unchanged other says
-under-room s rs ts ms (line.Call c) = record { room = answer-room (after s rs ts ms c .reply) (after s rs ts ms c .moves) }
+under-room s rs ts ms (line.Call c) = record { room = answer-room (after s rs ts ms c .reply) (after s rs ts ms c .lent .moves) }
 under-room s rs ts ms line.Other = record { room = omega arith }
 
 answered-room : (next : Stage) (rs ts ms l : List ℕ) → length l ≤ 24 → Roomy (answered next rs ts ms l)

@@ -5,6 +5,8 @@ use mathlib.Core.Bool.{Bool, true, false}
 use mathlib.Core.List.{List, [], _∷_, _++_}
 use mathlib.Core.Path.{_≡_}
 use Prim.Native.Nat.{ℕ}
+use Rattle.rule.specs.declared.Reply.{Reply}
+use Rattle.promise.specs.Promise as Promise
 use Rattle.look.specs.Promise as look
 use Rattle.line.specs.declared.Line as lines
 use Rattle.line.specs.declared.Line.the-variants as line
@@ -54,8 +56,9 @@ unfoldable pub unchanged : List ℕ → List ℕ → List ℕ → Said → After
 unchanged rs ts ms s = record { said = s; relays = rs; tablets = ts; moves = ms }
 
 -- a call under a scheme leaves what `look` says
-unfoldable pub called : ℕ → look.After → After
-called s a = record { said = says (Under s) (answerText (a .reply) (a .moves)); relays = a .relays; tablets = a .tablets; moves = a .moves }
+unfoldable pub called : ℕ → Promise.After Reply (look.Lists ℕ) → After
+called s a =
+    record { said = says (Under s) (answerText (a .reply) (a .lent .moves)); relays = a .lent .relays; tablets = a .lent .tablets; moves = a .lent .moves }
 
 -- a line behind the first, and what it means
 unfoldable pub under : ℕ → List ℕ → List ℕ → List ℕ → lines.Line → After

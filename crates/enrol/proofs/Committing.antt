@@ -25,7 +25,8 @@ use Rattle.meaning.specs.Meaning.{tabletsIn, ringOf}
 use Rattle.write.specs.Tables.{tabletTable, listed}
 use Rattle.write.specs.Wrote.{WroteTablets, Place}
 use Rattle.write.proofs.Filled.{tablets-table, zeros-behind}
-use Rattle.look.specs.Promise.{after, Answers}
+use Rattle.promise.specs.Promise.{Answers}
+use Rattle.look.specs.Promise.{lists, after}
 use Rattle.look.proofs.Refusing.{accepted-answers}
 use Rattle.newcomer.specs.declared.Enrolment.{Enrolment}
 use Rattle.newcomer.specs.Newcomer.{othersOf, Worked, Prepared}
@@ -75,7 +76,7 @@ module _ {s : ℕ} {rs ts ms : List ℕ} {t : TabletNumber} {p : Enrolment} (pl 
 
   pub enrolled-answers : {ts₁ ms₁ ts₂ : List ℕ} → OthersSeated (t .0) rs ts ms (p .chain .place) (p .chain .seat) ts₁ ms₁ (p .m) (p .chain .others) → (r i : ℕ) → i ≡ getD (p .chain .seat) 0 0 → r ≡ relayNumber rs i
       → WroteTablets ts₁ ts₂ (p .m + 1) (insert (t .0) r (tabletsIn ts₁ (p .m)))
-      → Answers (after s rs ts ms (Enrol t)) (replied Done r (p .chain .steps) (p .chain .others)) rs ts₂ ms₁
+      → Answers (after s rs ts ms (Enrol t)) (replied Done r (p .chain .steps) (p .chain .others)) (lists rs ts₂ ms₁)
   unfolding accepted tabletTable
   enrolled-answers {ts₁} {ms₁} {ts₂} sd r i ei er wrote =
       let relay : r ≡ relayNumber rs (getD (p .chain .seat) 0 0) = er ∙ ap (relayNumber rs) ei in

@@ -5,7 +5,8 @@ ghost use lib.ListN.{length};
 ghost use Rattle.rule.specs.declared.Call.the-variants.{Enrol};
 ghost use Rattle.lent.specs.Table.{relayPlaces, tabletPlaces, tabletNumber};
 ghost use Rattle.write.specs.Wrote.{Climbs};
-ghost use Rattle.look.specs.Promise.{after, Answers};
+ghost use Rattle.promise.specs.Promise.{Answers};
+ghost use Rattle.look.specs.Promise.{lists, after};
 ghost use Rattle.newcomer.specs.Newcomer.{Seatable};
 ghost use Rattle.enrol.specs.Enrol.{OneSeated, OthersSeated};
 
@@ -68,7 +69,7 @@ pub fn enrol(
     t: ring::TabletNumber,
 ) -> rule::Reply
     ensures { λ reply. ⌜ Answers (after scheme (now (relays .entry)) (now (tablets .entry)) (now (moves .entry)) (Enrol t))
-        reply (now (relays .entry)) (now (tablets .exit)) (now (moves .exit)) ⌝ }
+        reply (lists (now (relays .entry)) (now (tablets .exit)) (now (moves .exit))) ⌝ }
 {
     let p = newcomer::prepare(scheme, relays, tablets, moves.len() / 3, t);
     let refusal = p.refusal;

@@ -21,7 +21,8 @@ use Rattle.survey.specs.declared.Survey.{Survey}
 use Rattle.meaning.specs.Meaning.{ringOf, lentOf}
 use Rattle.write.specs.Tables.{listed}
 use Rattle.write.proofs.Listed.{listed-none}
-use Rattle.look.specs.Promise.{after, Answers}
+use Rattle.promise.specs.Promise.{Answers}
+use Rattle.look.specs.Promise.{lists, after}
 use Rattle.look.specs.Start.{Start}
 use Rattle.look.proofs.Refusing.{start-rises, start-ring, all-passed, accepted-answers}
 use Rattle.look.proofs.Stays.{relays-stay, tablets-stay}
@@ -50,7 +51,7 @@ module _ {s : ℕ} {rs ts : List ℕ} {n m : ℕ} {v : Survey} (b : Start s rs t
         all-passed s rs ts ms (Find t) b (ap isDone (missing-find b t (lentOf s rs ts ms) ∙ sym (f .refusal)) ∙ fine) (right .enough)
         (rw no-moves (omega arith))
 
-    pub find-found : Answers (after s rs ts ms (Find t)) (replied Done (seat .relay .0) (seat .passed) 0) rs ts ms
+    pub find-found : Answers (after s rs ts ms (Find t)) (replied Done (seat .relay .0) (seat .passed) 0) (lists rs ts ms)
     find-found =
         accepted-answers s rs ts ms (Find t) accepts _ rs ts ms
         (unfold accepted relayOf passed in (rw (found-relay b t (f .found fine), found-passed b t (f .found fine), no-moves)))

@@ -1,4 +1,3 @@
-pub mod Binding
 pub mod Checked
 pub mod Refusing
 pub mod Stays

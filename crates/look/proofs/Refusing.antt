@@ -2,16 +2,17 @@
 --   start-rises, start-ring                                                what right tables give to a loop, and their entries
 --   tables-first                                                           the first two refusals, before any others
 --   look-refused, number-refused, limits-refused, list-refused, all-passed   the refusal
+--   after-declined, after-accepted                                         what is left of the outcome
 --   refused-answers, accepted-answers                                      the promise
 -- Assumes nothing.
 use mathlib.Core.Bool.{true, false, not}
-use mathlib.Core.Path.{_≡_, refl, ap, _∙_}
+use mathlib.Core.Path.{_≡_, refl, sym, ap, _∙_}
 use mathlib.Core.List.{List, [], _∷_}
 use Prim.Native.Nat.{ℕ, _≤_, _<_}
 use borrow.Author.Tests.{lt-ltb, le-ltb}
 use lib.Dec.{ltb}
 use lib.ListN.{length}
-use Rattle.ring.specs.Scheme.{known, Positions, positions}
+use Rattle.ring.specs.Scheme.{known, positions}
 use Rattle.ring.proofs.Tests.{split, true-false}
 use Rattle.rule.specs.declared.Refusal.{Refusal}
 use Rattle.rule.specs.declared.Refusal.the-variants.{Done, LimitsTooSmall, MoveListTooShort}
@@ -23,22 +24,14 @@ use Rattle.rule.specs.Refusals.{isDone, refusedBy, Bar, bar, firstBar}
 use Rattle.rule.specs.Calls.{Lent, edited, moves, wrongNumbers, refusal, accepted, declined, outcome}
 use Rattle.rule.specs.Calls as Calls
 use Rattle.rule.proofs.Accepted.{outcome-accepted, outcome-declined}
+use Rattle.promise.specs.Promise.{Answers}
+use Rattle.promise.proofs.Binding.{settled-done, settled-refused}
 use Rattle.meaning.specs.Meaning.{relaysIn, tabletsIn, ringOf, tablesRight, tablesBars, tablesRefusal, lentOf}
 use Rattle.meaning.proofs.Right.{Rises, right-rises}
 use Rattle.survey.specs.declared.Survey.{Survey}
 use Rattle.write.specs.Tables.{relayTable, tabletTable, listed}
-use Rattle.look.specs.Promise.{outcomeOf, written, unchanged, settled, after, Answers}
+use Rattle.look.specs.Promise.{outcomeOf, lists, written, left, after}
 use Rattle.look.specs.Start.{Start}
-
--- ---- what is left of an outcome
-
-settled-accepted : (rs ts ms : List ℕ) (p : Positions) (g : Ring) (c : Call) → settled rs ts ms (accepted p g c) ≡ written rs ts ms (accepted p g c)
-unfolding settled accepted isDone
-settled-accepted rs ts ms p g c = refl
-
-pub settled-declined : (rs ts ms : List ℕ) (g : Ring) (r : Refusal) → isDone r ≡ false → settled rs ts ms (declined g r) ≡ unchanged rs ts ms (declined g r)
-unfolding settled declined
-settled-declined rs ts ms g r h = rw (h, settled)
 
 -- ---- the tables that a look found right
 
@@ -123,18 +116,21 @@ module _ (s : ℕ) (rs ts ms : List ℕ) (c : Call) where
 
   -- ---- the promise
 
-  pub refused-answers : (r : Refusal) → why ≡ r → isDone r ≡ false → (reply : Reply) → reply ≡ refusedBy r → Answers (after s rs ts ms c) reply rs ts ms
-  unfolding after outcomeOf
-  refused-answers r e h reply er =
-      let o : outcome (positions s) lent ring c ≡ declined ring r = outcome-declined (positions s) lent ring c (ap isDone e ∙ h) ∙ ap (declined ring) e in
-      rw (o, settled-declined rs ts ms ring r h)
-      (unfold unchanged declined in (record { reply = er; relays = refl; tablets = refl; moves = refl }))
+  pub after-declined : isDone why ≡ false → after s rs ts ms c ≡ record { reply = refusedBy why; lent = lists rs ts ms }
+  unfolding after left outcomeOf declined
+  after-declined h = rw (outcome-declined (positions s) lent ring c h) (settled-refused why (refusedBy why) (lists rs ts ms) _ h)
+
+  pub after-accepted : isDone why ≡ true → after s rs ts ms c ≡ written listed rs ts ms (accepted (positions s) ring c)
+  unfolding after left outcomeOf accepted isDone
+  after-accepted h = rw (outcome-accepted (positions s) lent ring c h) (settled-done Done _ (lists rs ts ms) _ refl)
+
+  pub refused-answers : (r : Refusal) → why ≡ r → isDone r ≡ false → (reply : Reply) → reply ≡ refusedBy r → Answers (after s rs ts ms c) reply (lists rs ts ms)
+  refused-answers r e h reply er = rw (after-declined (ap isDone e ∙ h)) (record { reply = er ∙ ap refusedBy (sym e); lent = refl })
 
   pub accepted-answers : why ≡ Done → (reply : Reply) (rs′ ts′ ms′ : List ℕ) → reply ≡ accepted (positions s) ring c .reply
       → rs′ ≡ relayTable (length rs) (Calls.after (positions s) ring c) → ts′ ≡ tabletTable (length ts) (Calls.after (positions s) ring c)
-      → ms′ ≡ listed (moves (positions s) ring c) ms → Answers (after s rs ts ms c) reply rs′ ts′ ms′
-  unfolding after outcomeOf isDone
+      → ms′ ≡ listed (moves (positions s) ring c) ms → Answers (after s rs ts ms c) reply (lists rs′ ts′ ms′)
+  unfolding isDone
   accepted-answers e reply rs′ ts′ ms′ er ers ets ems =
-      let o : outcome (positions s) lent ring c ≡ accepted (positions s) ring c = outcome-accepted (positions s) lent ring c (ap isDone e) in
-      rw (o, settled-accepted rs ts ms (positions s) ring c)
-      (unfold written accepted in (record { reply = er; relays = ers; tablets = ets; moves = ems }))
+      rw (after-accepted (ap isDone e))
+      (unfold written accepted in (record { reply = er; lent = λ i. lists (ers i) (ets i) (ems i) }))

@@ -2,46 +2,42 @@
 -- moves, and every lent number is as it was.
 --   refused-stays
 -- Assumes nothing.
-use mathlib.Core.Bool.{true, false}
+use mathlib.Core.Bool.{false}
 use mathlib.Core.List.{List}
-use mathlib.Core.Path.{_≡_, refl, sym, ap, _∙_}
+use mathlib.Core.Path.{_≡_, sym, ap, _∙_}
 use Prim.Native.Nat.{ℕ}
 use Rattle.ring.specs.Scheme.{positions}
 use Rattle.ring.proofs.Tests.{split, true-false}
 use Rattle.rule.specs.declared.Call.{Call}
-use Rattle.rule.specs.declared.Refusal.{Refusal}
 use Rattle.rule.specs.declared.Reply.{Reply}
 use Rattle.rule.specs.Refusals.{isDone, refusedBy}
-use Rattle.rule.specs.Calls.{refusal, accepted}
-use Rattle.rule.proofs.Accepted.{outcome-accepted}
+use Rattle.rule.specs.Calls.{Lent, Outcome, refusal, accepted, declined}
+use Rattle.rule.proofs.Accepted.{outcome-accepted, outcome-declined}
+use Rattle.promise.specs.Promise.{Answers}
+use Rattle.promise.proofs.Binding as Promise
 use Rattle.meaning.specs.Meaning.{ringOf, lentOf}
-use Rattle.look.specs.Promise.{outcomeOf, written, settled, after, Answers}
-use Rattle.look.proofs.Binding.{Same, answers-one}
-use Rattle.look.proofs.Refusing.{refused-answers}
-
-pub record Stays (r : Reply) (rs ts ms rs′ ts′ ms′ : List ℕ) : Type 0 where
-  pub reply : r ≡ refusedBy (r .refusal)
-  pub relays : rs′ ≡ rs
-  pub tablets : ts′ ≡ ts
-  pub moves : ms′ ≡ ms
+use Rattle.write.specs.Tables.{listed}
+use Rattle.look.specs.Promise.{outcomeOf, Lists, lists, written, left, after}
 
 module _ (s : ℕ) (rs ts ms : List ℕ) (c : Call) where
-  abbrev why : Refusal
-  why = refusal (positions s) (lentOf s rs ts ms) (ringOf rs ts) c
+  abbrev o : Outcome
+  o = outcomeOf s rs ts ms c
 
-  done-reply : isDone why ≡ true → isDone (after s rs ts ms c .reply .refusal) ≡ true
-  unfolding after settled outcomeOf written accepted isDone
-  done-reply d = rw (outcome-accepted (positions s) (lentOf s rs ts ms) (ringOf rs ts) c d)
+  abbrev lent : Lent
+  lent = lentOf s rs ts ms
 
-  pub refused-stays : {r : Reply} {rs′ ts′ ms′ : List ℕ} → Answers (after s rs ts ms c) r rs′ ts′ ms′ → isDone (r .refusal) ≡ false → Stays r rs ts ms rs′ ts′ ms′
-  refused-stays {r} {rs′} {ts′} {ms′} a f =
-      split (isDone why)
-      (λ d. absurd (true-false (sym (done-reply d) ∙ ap (λ (x : Reply). isDone (x .refusal)) (sym (a .reply)) ∙ f)))
-      (λ d.
-      let e : Same r (refusedBy why) rs′ rs ts′ ts ms′ ms = answers-one a (refused-answers s rs ts ms c why refl d (refusedBy why) refl) in
-      record {
-        reply = e .reply ∙ ap (λ (x : Reply). refusedBy (x .refusal)) (sym (e .reply));
-        relays = e .relays;
-        tablets = e .tablets;
-        moves = e .moves;
-      })
+  zeros : isDone (o .reply .refusal) ≡ false → o .reply ≡ refusedBy (o .reply .refusal)
+  unfolding outcomeOf accepted declined isDone
+  zeros f =
+      split (isDone (refusal (positions s) lent (ringOf rs ts) c))
+      (λ d. absurd (true-false (ap (λ (x : Outcome). isDone (x .reply .refusal)) (sym (outcome-accepted (positions s) lent (ringOf rs ts) c d)) ∙ f)))
+      (λ d. rw (outcome-declined (positions s) lent (ringOf rs ts) c d))
+
+  pub refused-stays : {r : Reply} {l : Lists ℕ} → Answers (after s rs ts ms c) r l → isDone (r .refusal) ≡ false
+      → (r ≡ refusedBy (r .refusal)) × (l ≡ lists rs ts ms)
+  unfolding after left written
+  refused-stays {r} {l} a f =
+      let e : (r ≡ o .reply) × (l ≡ lists rs ts ms) =
+      Promise.refused-stays (o .reply .refusal) (o .reply) (lists rs ts ms) (written listed rs ts ms o) (λ x. x .refusal) (λ d. d) a f in
+      let z : o .reply ≡ refusedBy (o .reply .refusal) = zeros (ap (λ (x : Reply). isDone (x .refusal)) (sym (e .0)) ∙ f) in
+      (e .0 ∙ z ∙ ap (λ (x : Reply). refusedBy (x .refusal)) (sym (e .0)), e .1)

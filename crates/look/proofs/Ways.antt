@@ -10,8 +10,9 @@ use borrow.Author.Tests.{not-true, not-false}
 use Rattle.rule.specs.declared.Call.{Call}
 use Rattle.rule.specs.declared.Reply.{Reply}
 use Rattle.rule.specs.Refusals.{isDone, refusedBy}
+use Rattle.promise.specs.Promise.{Answers}
 use Rattle.look.specs.declared.Looked.{Looked}
-use Rattle.look.specs.Promise.{after, Answers}
+use Rattle.look.specs.Promise.{lists, after}
 use Rattle.look.specs.Start.{Start, Looks}
 use Rattle.look.proofs.Refusing.{look-refused, refused-answers}
 
@@ -20,7 +21,7 @@ module _ {s : ℕ} {rs ts : List ℕ} {l : Looked} (k : Looks s rs ts l) {done :
   look-start h = k .start (sym e ∙ not-false done h)
 
   pub look-answers : not done ≡ true → {reply : Reply} → reply ≡ refusedBy (l .refusal) → (c : Call) (ms : List ℕ)
-      → Answers (after s rs ts ms c) reply rs ts ms
+      → Answers (after s rs ts ms c) reply (lists rs ts ms)
   look-answers h {reply} er c ms =
       let no : isDone (l .refusal) ≡ false = sym e ∙ not-true _ h in
       refused-answers s rs ts ms c (l .refusal) (look-refused s rs ts ms c (l .refusal) (sym (k .refusal)) no) no reply er

@@ -36,7 +36,8 @@ use Rattle.meaning.proofs.Right.{Rises}
 use Rattle.meaning.proofs.Run.{run-fill}
 use Rattle.write.specs.Tables.{flat, filled, relayTable, tabletTable, listed}
 use Rattle.write.proofs.Filled.{length-flat, tablets-table}
-use Rattle.look.specs.Promise.{after, Answers}
+use Rattle.promise.specs.Promise.{Answers}
+use Rattle.look.specs.Promise.{lists, after}
 use Rattle.look.proofs.Stays.{relays-whole, relays-few, tablets-whole, tablets-zeros}
 use Rattle.look.proofs.Refusing.{start-rises, start-ring, limits-refused, list-refused, all-passed, refused-answers, accepted-answers}
 use Rattle.homes.specs.declared.Around.{Around}
@@ -55,7 +56,7 @@ use Rattle.relay_calls.proofs.Replacing.{filled-replaced}
 -- ---- a refusal from 1 to 7
 
 pub edit-refused : {s : ℕ} {rs ts : List ℕ} (ms : List ℕ) {c : Call} {x : ℕ} {e : Edit} {d : Bool} {reply : Reply} → Edits s rs ts c x e → d ≡ isDone (e .refusal) → not d ≡ true
-    → reply ≡ refusedBy (e .refusal) → Answers (after s rs ts ms c) reply rs ts ms
+    → reply ≡ refusedBy (e .refusal) → Answers (after s rs ts ms c) reply (lists rs ts ms)
 edit-refused {s} {rs} {ts} ms {c} {e = e} {reply = reply} o ed h er =
     let n : isDone (e .refusal) ≡ false = sym ed ∙ not-true _ h in
     refused-answers s rs ts ms c (e .refusal) (o .refused n ms) n reply er
@@ -162,7 +163,7 @@ module _ {s : ℕ} {rs ts : List ℕ} {c : Call} {n m : ℕ} {own : List ℕ} {a
           ∙ sym (planned .refusal ∙ rw (t, u)))
           (λ u. let z : r .refusal ≡ Done = planned .refusal ∙ rw (t, u) in absurd (true-false (sym (ap isDone z) ∙ d))))
 
-      pub plan-refused : {d : Bool} {reply : Reply} → d ≡ isDone (r .refusal) → not d ≡ true → reply ≡ refusedBy (r .refusal) → Answers (after s rs ts ms c) reply rs ts ms
+      pub plan-refused : {d : Bool} {reply : Reply} → d ≡ isDone (r .refusal) → not d ≡ true → reply ≡ refusedBy (r .refusal) → Answers (after s rs ts ms c) reply (lists rs ts ms)
       plan-refused {reply = reply} ed h er =
           let z : isDone (r .refusal) ≡ false = sym ed ∙ not-true _ h in
           refused-answers s rs ts ms c (r .refusal) (plan-why z) z reply er
@@ -213,6 +214,6 @@ module _ {s : ℕ} {rs ts : List ℕ} {c : Call} {n m : ℕ} {own : List ℕ} {a
           ∙ sym (after-tablets (z .enough)))
 
       pub plan-answers : {rs′ ts′ ms′ : List ℕ} {k : ℕ} {reply : Reply} → Carried own relay ts ts′ ms ms′ m k → Replaced own rs rs′
-          → reply ≡ replied Done x 0 k → Answers (after s rs ts ms c) reply rs′ ts′ ms′
+          → reply ≡ replied Done x 0 k → Answers (after s rs ts ms c) reply (lists rs′ ts′ ms′)
       plan-answers {rs′} {ts′} {ms′} {reply = reply} w v er =
           accepted-answers s rs ts ms c passes reply rs′ ts′ ms′ (er ∙ the-reply (w .count)) (the-relays v) (the-tablets w) (w .list ∙ ap (λ (l : List Move). listed l ms) (sym same-moves))

@@ -4,7 +4,8 @@ ghost use Prim.Native.Nat.{ℕ, _≤_};
 ghost use lib.ListN.{length};
 ghost use Rattle.rule.specs.declared.Call.{Call};
 ghost use Rattle.rule.specs.declared.Call.the-variants.{Add, Remove, Set};
-ghost use Rattle.look.specs.Promise.{after, Answers};
+ghost use Rattle.promise.specs.Promise.{Answers};
+ghost use Rattle.look.specs.Promise.{lists, after};
 ghost use Rattle.relay_edit.specs.Edited.{ownNumbers, Edits};
 ghost use Rattle.relay_calls.specs.Finish.{Replaced, Comes};
 
@@ -29,7 +30,8 @@ fn finish(
     e: relay_edit::Edit,
 ) -> rule::Reply
     requires { ⌜ Comes (now relays) (now tablets) (r .0) e ⌝ }
-    ensures { λ reply. ⌜ ((s : ℕ) (c : Call) → Edits s (now (relays .entry)) (now (tablets .entry)) c (r .0) e → Answers (after s (now (relays .entry)) (now (tablets .entry)) (now (moves .entry)) c) reply (now (relays .exit)) (now (tablets .exit)) (now (moves .exit))) ⌝ }
+    ensures { λ reply. ⌜ ((s : ℕ) (c : Call) → Edits s (now (relays .entry)) (now (tablets .entry)) c (r .0) e → Answers (after s (now (relays .entry)) (now (tablets .entry)) (now (moves .entry)) c)
+        reply (lists (now (relays .exit)) (now (tablets .exit)) (now (moves .exit)))) ⌝ }
 {
     let first = e.refusal;
     let passed = rule::done(first);
@@ -71,7 +73,8 @@ pub fn add(
     r: ring::RelayNumber,
     limit: u32,
 ) -> rule::Reply
-    ensures { λ reply. ⌜ Answers (after scheme (now (relays .entry)) (now (tablets .entry)) (now (moves .entry)) (Add r limit)) reply (now (relays .exit)) (now (tablets .exit)) (now (moves .exit)) ⌝ }
+    ensures { λ reply. ⌜ Answers (after scheme (now (relays .entry)) (now (tablets .entry)) (now (moves .entry)) (Add r limit))
+        reply (lists (now (relays .exit)) (now (tablets .exit)) (now (moves .exit))) ⌝ }
 {
     let e = relay_edit::edit_add(scheme, relays, tablets, r, limit);
     finish(relays, tablets, moves, r, e)
@@ -84,7 +87,8 @@ pub fn remove(
     moves: &mut [u32],
     r: ring::RelayNumber,
 ) -> rule::Reply
-    ensures { λ reply. ⌜ Answers (after scheme (now (relays .entry)) (now (tablets .entry)) (now (moves .entry)) (Remove r)) reply (now (relays .exit)) (now (tablets .exit)) (now (moves .exit)) ⌝ }
+    ensures { λ reply. ⌜ Answers (after scheme (now (relays .entry)) (now (tablets .entry)) (now (moves .entry)) (Remove r))
+        reply (lists (now (relays .exit)) (now (tablets .exit)) (now (moves .exit))) ⌝ }
 {
     let e = relay_edit::edit_remove(scheme, relays, tablets, r);
     finish(relays, tablets, moves, r, e)
@@ -98,7 +102,8 @@ pub fn set(
     r: ring::RelayNumber,
     limit: u32,
 ) -> rule::Reply
-    ensures { λ reply. ⌜ Answers (after scheme (now (relays .entry)) (now (tablets .entry)) (now (moves .entry)) (Set r limit)) reply (now (relays .exit)) (now (tablets .exit)) (now (moves .exit)) ⌝ }
+    ensures { λ reply. ⌜ Answers (after scheme (now (relays .entry)) (now (tablets .entry)) (now (moves .entry)) (Set r limit))
+        reply (lists (now (relays .exit)) (now (tablets .exit)) (now (moves .exit))) ⌝ }
 {
     let e = relay_edit::edit_set(scheme, relays, tablets, r, limit);
     finish(relays, tablets, moves, r, e)

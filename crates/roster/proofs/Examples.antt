@@ -17,22 +17,25 @@ use Rattle.lent.specs.Table as Table
 use Rattle.lent.specs.Shape as Shape
 use Rattle.meaning.specs.Meaning as Meaning
 use Rattle.write.specs.Tables as Tables
+use Rattle.promise.specs.Promise as Promise
+use Rattle.promise.specs.Promise.{After}
 use Rattle.layout.specs.Numbers as Numbers
 use Rattle.layout.specs.Roster as Roster
 use Rattle.roster.specs.Content as Content
 use Rattle.roster.specs.Reading as Reading
-use Rattle.roster.specs.Reading.{After, after}
+use Rattle.roster.specs.declared.Reading as Said
+use Rattle.roster.specs.Reading.{after}
 
 -- these numbers as bytes
 abbrev bytes : List ℕ → List ℕ
 bytes [] = []
 bytes (x ∷ xs) = Fnv.fourBytes x ++ bytes xs
 
-abbrev done : ℕ → List ℕ → List ℕ → After
-done scheme rs ts = record { reply = refusedBy Done; scheme = scheme; relays = rs; tablets = ts }
+abbrev done : ℕ → List ℕ → List ℕ → After Said.Reading (List ℕ × List ℕ)
+done scheme rs ts = record { reply = record { reply = refusedBy Done; scheme = scheme }; lent = (rs, ts) }
 
-abbrev refused : Refusal → List ℕ → List ℕ → After
-refused why rs ts = record { reply = refusedBy why; scheme = 0; relays = rs; tablets = ts }
+abbrev refused : Refusal → List ℕ → List ℕ → After Said.Reading (List ℕ × List ℕ)
+refused why rs ts = record { reply = Reading.refusedReading why; lent = (rs, ts) }
 
 -- relays 10 and 20 of limit 1, and tablets 5 and 7 where scheme 0 has them, under the scheme that is given
 abbrev two : ℕ → List ℕ
@@ -67,5 +70,5 @@ pub reading-examples :
     ∷ refused OutputUnfit six five
     ∷ refused RosterContentWrong six six
     ∷ []
-unfolding Fnv.fourBytes Fnv.mixed Fnv.mixedAll Fnv.fnv Scheme.known Scheme.position Scheme.positions Clockwise.clockwise Clockwise.distance Clockwise.sooner Entry.numbers Entry.count Entry.load Entry.first Order.queued Order.order Rule.hasRoom Rule.seat Rule.seatAll Rule.placement Rule.rising Rule.limitsFit Rule.same Rule.isJust Rule.right Refusals.isDone Refusals.firstBar Table.relayPlaces Table.relayWhole Table.tabletPlaces Table.tabletWhole Shape.relayFits Shape.tabletFits Meaning.places Tables.flat Tables.filled Tables.relayTable Tables.tabletTable Numbers.numberAt Roster.field Roster.shaped Roster.shapeRight Roster.block Roster.rosterRing Content.numbered Content.ringRight Content.contentRight Content.tablesFit Reading.refusal Reading.taken Reading.unchanged Reading.settled Reading.after
+unfolding Fnv.fourBytes Fnv.mixed Fnv.mixedAll Fnv.fnv Scheme.known Scheme.position Scheme.positions Clockwise.clockwise Clockwise.distance Clockwise.sooner Entry.numbers Entry.count Entry.load Entry.first Order.queued Order.order Rule.hasRoom Rule.seat Rule.seatAll Rule.placement Rule.rising Rule.limitsFit Rule.same Rule.isJust Rule.right Refusals.isDone Refusals.firstBar Table.relayPlaces Table.relayWhole Table.tabletPlaces Table.tabletWhole Shape.relayFits Shape.tabletFits Meaning.places Tables.flat Tables.filled Tables.relayTable Tables.tabletTable Numbers.numberAt Roster.field Roster.shaped Roster.shapeRight Roster.block Roster.rosterRing Content.numbered Content.ringRight Content.contentRight Content.tablesFit Reading.refusal Reading.taken Promise.settled Reading.after
 reading-examples = refl

@@ -1,5 +1,4 @@
 pub mod Bars
-pub mod Binding
 pub mod Blocks
 pub mod Contents
 pub mod Examples

@@ -18,6 +18,8 @@ use Rattle.rule.specs.declared.Refusal.the-variants.{Done, RosterContentWrong}
 use Rattle.rule.specs.Refusals.{isDone, refusedBy, bar, firstBar}
 use Rattle.lent.specs.Table.{relayPlaces, tabletPlaces}
 use Rattle.lent.specs.Shape.{relayFits, tabletFits}
+use Rattle.promise.specs.Promise.{Answers}
+use Rattle.promise.proofs.Binding as Promise
 use Rattle.write.specs.Tables.{flat, relayTable, tabletTable}
 use Rattle.layout.specs.declared.Trailer.{Trailer}
 use Rattle.layout.specs.Roster.{shapeRight, rosterScheme, entryBytes, block, rosterRing}
@@ -26,27 +28,24 @@ use Rattle.layout.proofs.Trailers.{Says, trailer-right, trailer-says, Shape, sh
 use Rattle.layout.proofs.Rows.{block-length}
 use Rattle.roster.specs.declared.Reading.{Reading}
 use Rattle.roster.specs.Content.{contentRight, tablesFit}
-use Rattle.roster.specs.Reading.{refusal, taken, unchanged, settled, after, refusedReading, Answers}
+use Rattle.roster.specs.Reading.{refusal, taken, after, refusedReading}
 use Rattle.roster.specs.Inner.{earlyRefusal, fullTables, Room, TakenOver}
 use Rattle.roster.proofs.Contents.{full-content}
 
 -- ---- the promise of a refused reading
 
-settled-refused : (why : Refusal) (b rs ts : List ℕ) → isDone why ≡ false → settled why b rs ts ≡ unchanged why rs ts
-unfolding settled
-settled-refused why b rs ts h = rw (h, settled)
-
 module _ (b rs ts : List ℕ) where
-  refused-answers : (why : Refusal) → refusal b rs ts ≡ why → isDone why ≡ false → {r : Reading} → r ≡ refusedReading why → Answers (after b rs ts) r rs ts
-  unfolding after unchanged
+  refused-answers : (why : Refusal) → refusal b rs ts ≡ why → isDone why ≡ false → {r : Reading} → r ≡ refusedReading why → Answers (after b rs ts) r (rs, ts)
+  unfolding after
   refused-answers why e h er =
-      rw (e, settled-refused why b rs ts h)
-      (record { reply = ap (λ (x : Reading). x .reply) er; scheme = ap (λ (x : Reading). x .scheme) er; relays = refl; tablets = refl })
+      Promise.refused-answers (refusal b rs ts) (refusedReading (refusal b rs ts)) (rs, ts) _ (ap isDone e ∙ h) (er ∙ ap refusedReading (sym e))
 
   taken-answers : refusal b rs ts ≡ Done → {r : Reading} {rs′ ts′ : List ℕ} → r .reply ≡ refusedBy Done → r .scheme ≡ rosterScheme b
-      → rs′ ≡ relayTable (length rs) (rosterRing b) → ts′ ≡ tabletTable (length ts) (rosterRing b) → Answers (after b rs ts) r rs′ ts′
-  unfolding after settled taken isDone
-  taken-answers e er es ers ets = rw (e, settled) (record { reply = er; scheme = es; relays = ers; tablets = ets })
+      → rs′ ≡ relayTable (length rs) (rosterRing b) → ts′ ≡ tabletTable (length ts) (rosterRing b) → Answers (after b rs ts) r (rs′, ts′)
+  unfolding after taken isDone
+  taken-answers e er es ers ets =
+      Promise.done-answers (refusal b rs ts) (refusedReading (refusal b rs ts)) (rs, ts) (taken b rs ts) (ap isDone e)
+      (record { reply = λ i. record { reply = er i; scheme = es i }; lent = λ i. (ers i, ets i) })
 
 -- ---- the refusals before the content
 
@@ -84,7 +83,7 @@ module _ (b rs ts : List ℕ) {t : Trailer} (o : t ≡ trailerOf b) {bar : Refus
       (λ v. rw (e, u, v, a, ← s .scheme, v)))
       (λ u. rw (e, u, sym (trailer-right b o) ∙ u))
 
-  pub open-refused : not done ≡ true → {r : Reading} → r ≡ refusedReading bar → Answers (after b rs ts) r rs ts
+  pub open-refused : not done ≡ true → {r : Reading} → r ≡ refusedReading bar → Answers (after b rs ts) r (rs, ts)
   open-refused h er =
       let d : isDone bar ≡ false = sym ed ∙ not-true done h in
       refused-answers b rs ts bar (open-why d) d er
@@ -147,7 +146,7 @@ module _ {b rs ts : List ℕ} {t : Trailer} (o : Open b rs ts t) where
         )
         e
 
-    pub over-wrong : not r ≡ true → {x : Reading} → x ≡ refusedReading RosterContentWrong → Answers (after b rs ts) x rs′ ts′
+    pub over-wrong : not r ≡ true → {x : Reading} → x ≡ refusedReading RosterContentWrong → Answers (after b rs ts) x (rs′, ts′)
     unfolding firstBar isDone
     over-wrong h ex =
         let f : r ≡ false = not-true r h in
@@ -155,7 +154,7 @@ module _ {b rs ts : List ℕ} {t : Trailer} (o : Open b rs ts t) where
         let et : ts′ ≡ ts = w .tablets ∙ rw f in
         rw (er, et) (refused-answers b rs ts RosterContentWrong (why-content RosterContentWrong (rw h)) refl ex)
 
-    pub over-right : not r ≡ false → {x : Reading} → x .reply ≡ refusedBy Done → x .scheme ≡ t .scheme → Answers (after b rs ts) x rs′ ts′
+    pub over-right : not r ≡ false → {x : Reading} → x .reply ≡ refusedBy Done → x .scheme ≡ t .scheme → Answers (after b rs ts) x (rs′, ts′)
     unfolding firstBar relayTable tabletTable
     over-right h er es =
         let f : r ≡ true = not-false r h in

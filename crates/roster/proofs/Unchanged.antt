@@ -2,38 +2,36 @@
 -- with 0 as the scheme (document 01, "Replies", "Roster file").
 --   reply-zeros, refused-stays
 -- Assumes nothing.
-use mathlib.Core.Bool.{true, false}
+use mathlib.Core.Bool.{false}
 use mathlib.Core.List.{List}
-use mathlib.Core.Path.{_≡_, sym, ap, _∙_}
+use mathlib.Core.Path.{_≡_, refl, sym, ap, _∙_}
 use Prim.Native.Nat.{ℕ}
-use Rattle.ring.proofs.Tests.{split, true-false}
-use Rattle.rule.specs.declared.Reply.{Reply}
+use Rattle.ring.proofs.Tests.{split}
+use Rattle.rule.specs.declared.Refusal.{Refusal}
 use Rattle.rule.specs.Refusals.{isDone, refusedBy}
+use Rattle.promise.specs.Promise.{Answers}
+use Rattle.promise.proofs.Binding as Promise
+use Rattle.promise.proofs.Binding.{settled-done, settled-refused}
 use Rattle.roster.specs.declared.Reading.{Reading}
-use Rattle.roster.specs.Reading.{refusal, After, taken, unchanged, settled, after, Answers}
+use Rattle.roster.specs.Reading.{refusal, taken, refusedReading, after}
 
-module _ (b rs ts : List ℕ) where
-  after-taken : isDone (refusal b rs ts) ≡ true → after b rs ts ≡ taken b rs ts
-  unfolding after settled
-  after-taken d = rw (d, settled)
+module _ (b rs ts : List ℕ) {r : Reading} {l : List ℕ × List ℕ} (a : Answers (after b rs ts) r l) where
+  abbrev why : Refusal
+  why = refusal b rs ts
 
-  after-unchanged : isDone (refusal b rs ts) ≡ false → after b rs ts ≡ unchanged (refusal b rs ts) rs ts
-  unfolding after settled
-  after-unchanged d = rw (d, settled)
+  zeros : after b rs ts .reply .reply ≡ refusedBy (after b rs ts .reply .reply .refusal)
+  unfolding after taken
+  zeros =
+      split (isDone why)
+      (λ d. rw (settled-done why (refusedReading why) (rs, ts) (taken b rs ts) d))
+      (λ d. rw (settled-refused why (refusedReading why) (rs, ts) (taken b rs ts) d))
 
-  zeros : after b rs ts .reply ≡ refusedBy (after b rs ts .reply .refusal)
-  unfolding taken unchanged
-  zeros = split (isDone (refusal b rs ts)) (λ d. rw (after-taken d)) (λ d. rw (after-unchanged d))
+  pub reply-zeros : r .reply ≡ refusedBy (r .reply .refusal)
+  reply-zeros = ap (λ (x : Reading). x .reply) (a .reply) ∙ zeros ∙ ap (λ (x : Reading). refusedBy (x .reply .refusal)) (sym (a .reply))
 
-  module _ {r : Reading} {rs′ ts′ : List ℕ} (a : Answers (after b rs ts) r rs′ ts′) where
-    pub reply-zeros : r .reply ≡ refusedBy (r .reply .refusal)
-    reply-zeros = a .reply ∙ zeros ∙ ap (λ (x : Reply). refusedBy (x .refusal)) (sym (a .reply))
-
-    pub refused-stays : isDone (r .reply .refusal) ≡ false → (rs′ ≡ rs) × ((ts′ ≡ ts) × (r .scheme ≡ 0))
-    unfolding taken unchanged isDone
-    refused-stays f =
-        split (isDone (refusal b rs ts))
-        (λ d. absurd (true-false (ap (λ (x : After). isDone (x .reply .refusal)) (sym (after-taken d)) ∙ ap (λ (x : Reply). isDone (x .refusal)) (sym (a .reply)) ∙ f)))
-        (λ d.
-        let e : after b rs ts ≡ unchanged (refusal b rs ts) rs ts = after-unchanged d in
-        (a .relays ∙ ap (λ (x : After). x .relays) e, (a .tablets ∙ ap (λ (x : After). x .tablets) e, a .scheme ∙ ap (λ (x : After). x .scheme) e)))
+  pub refused-stays : isDone (r .reply .refusal) ≡ false → (r .scheme ≡ 0) × (l ≡ (rs, ts))
+  unfolding after taken isDone
+  refused-stays f =
+      let e : (r ≡ refusedReading why) × (l ≡ (rs, ts)) =
+      Promise.refused-stays why (refusedReading why) (rs, ts) (taken b rs ts) (λ x. x .reply .refusal) (λ _. refl) a f in
+      (ap (λ (x : Reading). x .scheme) (e .0), e .1)

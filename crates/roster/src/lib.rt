@@ -6,9 +6,10 @@ ghost use mathlib.Core.List.{_++_};
 ghost use Prim.Native.Nat.{_*_, _-_, _≤_};
 ghost use lib.ListN.{length, take, replicate};
 ghost use Rattle.ring.specs.Scheme.{known};
+ghost use Rattle.promise.specs.Promise.{Answers};
 ghost use Rattle.write.specs.Tables.{filled};
 ghost use Rattle.roster.specs.Content.{tablesFit};
-ghost use Rattle.roster.specs.Reading.{refusedReading, after, Answers};
+ghost use Rattle.roster.specs.Reading.{refusedReading, after};
 ghost use Rattle.roster.specs.Inner.{earlyRefusal, fullTables, Room, TakenOver};
 
 // The numbers of scratch tables that take any roster: two to a place.
@@ -164,7 +165,8 @@ fn refused(refusal: rule::Refusal) -> Reading
 
 // A roster from any bytes into lent tables. The reply's relay, relays passed and moves are 0, done or refused.
 pub fn read(bytes: &[u8], relays: &mut [u32], tablets: &mut [u32]) -> Reading
-    ensures { λ r. ⌜ Answers (after (now (bytes .entry)) (now (relays .entry)) (now (tablets .entry))) r (now (relays .exit)) (now (tablets .exit)) ⌝ }
+    ensures { λ r. ⌜ Answers (after (now (bytes .entry)) (now (relays .entry)) (now (tablets .entry)))
+        r (now (relays .exit), now (tablets .exit)) ⌝ }
 {
     let t = layout::open(bytes);
     let n = t.relays;

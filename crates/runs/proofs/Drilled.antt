@@ -10,6 +10,7 @@ use Rattle.ring.specs.Scheme as Scheme
 use Rattle.ring.specs.Clockwise as Clockwise
 use Rattle.rule.specs.declared.Call.{Call}
 use Rattle.rule.specs.declared.Call.the-variants.{Add}
+use Rattle.rule.specs.declared.Reply.{Reply}
 use Rattle.rule.specs.declared.Move.{Move}
 use Rattle.rule.specs.Calls.{move}
 use Rattle.rule.specs.Entry as Entry
@@ -19,6 +20,8 @@ use Rattle.rule.specs.Refusals as Refusals
 use Rattle.rule.specs.Calls as Calls
 use Rattle.rule.specs.Tally as Tally
 use Rattle.rule.specs.Drill as Drill
+use Rattle.promise.specs.Promise as Promised
+use Rattle.promise.specs.Promise.{After}
 use Rattle.lent.specs.Table as Table
 use Rattle.lent.specs.Shape as Shape
 use Rattle.meaning.specs.Meaning as Meaning
@@ -39,8 +42,8 @@ standing (suc k) (t ∷ o ∷ n ∷ l) = move t o n ∷ standing k l
 unfoldable pub answered : ℕ → Memory → List Call → List Drill.Answer
 answered s m [] = []
 answered s m (c ∷ cs) =
-    let a : Promise.After = Promise.after s (m .relays) (m .tablets) (m .moves) c in
-    record { reply = a .reply; moves = standing (a .reply .moves) (a .moves) } ∷ answered s (called s m c) cs
+    let a : After Reply (Promise.Lists ℕ) = Promise.after s (m .relays) (m .tablets) (m .moves) c in
+    record { reply = a .reply; moves = standing (a .reply .moves) (a .lent .moves) } ∷ answered s (called s m c) cs
 
 -- empty tables of eight places, eight moves, and a zero tally
 abbrev blank : Memory
@@ -50,5 +53,5 @@ abbrev relays : List Call
 relays = Add (record { 0 = 10 }) 1 ∷ Add (record { 0 = 20 }) 2 ∷ Add (record { 0 = 30 }) 1 ∷ []
 
 pub drill-lent : drop 3 (answered 0 blank (relays ++ map (λ (c : Drill.Case). c .call) Drill.drill)) ≡ map (λ (c : Drill.Case). c .answer) Drill.drill
-unfolding answered standing called Promise.after Promise.settled Promise.written Promise.unchanged Promise.outcomeOf Meaning.lentOf Meaning.ringOf Meaning.places Meaning.fitTables Meaning.restUnused Shape.relaysUsed Shape.tabletsUsed Shape.used Shape.relayFits Shape.tabletFits Shape.all Shape.unused Table.relayPlaces Table.relayNumber Table.relayLimit Table.relayWhole Table.tabletPlaces Table.tabletNumber Table.tabletRelay Table.tabletWhole Tables.flat Tables.filled Tables.relayTable Tables.tabletTable Tables.flatMoves Tables.listed Counted.tallyOf Counted.counts Counted.tallied Tally.more Tally.counted Scheme.known Scheme.positions Scheme.position Clockwise.clockwise Clockwise.distance Clockwise.sooner Entry.numbers Entry.has Entry.besideOf Entry.insert Entry.delete Entry.put Entry.total Entry.count Entry.load Entry.first Entry.upTo Order.queued Order.order Rule.full Rule.hasRoom Rule.seat Rule.seatAll Rule.placement Rule.rising Rule.limitsFit Rule.same Rule.isJust Rule.right Refusals.isDone Refusals.firstBar Calls.edited Calls.orNobody Calls.after Calls.moved Calls.moves Calls.aheadOf Calls.fullAhead Calls.passed Calls.relayOf Calls.wrongNumbers Calls.refusal Calls.accepted Calls.declined Calls.outcome Drill.replies Drill.drill
+unfolding answered standing called Promise.after Promise.left Promise.written Promised.settled Promise.outcomeOf Meaning.lentOf Meaning.ringOf Meaning.places Meaning.fitTables Meaning.restUnused Shape.relaysUsed Shape.tabletsUsed Shape.used Shape.relayFits Shape.tabletFits Shape.all Shape.unused Table.relayPlaces Table.relayNumber Table.relayLimit Table.relayWhole Table.tabletPlaces Table.tabletNumber Table.tabletRelay Table.tabletWhole Tables.flat Tables.filled Tables.relayTable Tables.tabletTable Tables.flatMoves Tables.listed Counted.tallyOf Counted.counts Counted.tallied Tally.more Tally.counted Scheme.known Scheme.positions Scheme.position Clockwise.clockwise Clockwise.distance Clockwise.sooner Entry.numbers Entry.has Entry.besideOf Entry.insert Entry.delete Entry.put Entry.total Entry.count Entry.load Entry.first Entry.upTo Order.queued Order.order Rule.full Rule.hasRoom Rule.seat Rule.seatAll Rule.placement Rule.rising Rule.limitsFit Rule.same Rule.isJust Rule.right Refusals.isDone Refusals.firstBar Calls.edited Calls.orNobody Calls.after Calls.moved Calls.moves Calls.aheadOf Calls.fullAhead Calls.passed Calls.relayOf Calls.wrongNumbers Calls.refusal Calls.accepted Calls.declined Calls.outcome Drill.replies Drill.drill
 drill-lent = refl

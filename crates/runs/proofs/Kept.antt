@@ -2,7 +2,7 @@
 --   call-reply      the reply is the outcome's
 --   call-stands     the tables afterwards
 -- Assumes nothing.
-use mathlib.Core.Bool.{true, false}
+use mathlib.Core.Bool.{true}
 use mathlib.Core.List.{List}
 use mathlib.Core.Path.{_≡_, refl}
 use Prim.Native.Nat.{ℕ, _^_, _≤_, _<_}
@@ -19,8 +19,9 @@ use Rattle.rule.proofs.Accepted.{Accepted, accepted-is, Edited, edited-tables, 
 use Rattle.lent.specs.Table.{relayPlaces, tabletPlaces}
 use Rattle.meaning.specs.Meaning.{ringOf, tablesRight, lentOf}
 use Rattle.meaning.proofs.Fit.{Fit, right-fit, right-ruled}
-use Rattle.look.specs.Promise.{outcomeOf, written, unchanged, settled, after}
-use Rattle.look.proofs.Refusing.{settled-declined}
+use Rattle.write.specs.Tables.{listed}
+use Rattle.look.specs.Promise.{outcomeOf, written, after}
+use Rattle.look.proofs.Refusing.{after-accepted, after-declined}
 use Rattle.runs.proofs.Again.{ring-again, fit-again, lengths-again}
 use Rattle.runs.proofs.Rooms.{relays-room, tablets-room}
 
@@ -41,27 +42,20 @@ module _ (s : ℕ) (rs ts ms : List ℕ) (c : Call) where
   abbrev g : Rule.Ring
   g = ringOf rs ts
 
-  after-accepted : isDone (Calls.refusal p lent g c) ≡ true → after s rs ts ms c ≡ written rs ts ms (Calls.accepted p g c)
-  unfolding after settled outcomeOf isDone Calls.accepted
-  after-accepted d = rw (outcome-accepted p lent g c d)
-
-  after-declined : isDone (Calls.refusal p lent g c) ≡ false → after s rs ts ms c ≡ unchanged rs ts ms (Calls.declined g (Calls.refusal p lent g c))
-  unfolding after outcomeOf
-  after-declined d = rw (outcome-declined p lent g c d) (settled-declined rs ts ms g (Calls.refusal p lent g c) d)
-
   pub call-reply : after s rs ts ms c .reply ≡ outcomeOf s rs ts ms c .reply
-  unfolding outcomeOf written unchanged
+  unfolding outcomeOf written Calls.declined
   call-reply =
       split (isDone (Calls.refusal p lent g c))
-      (λ d. rw (after-accepted d, outcome-accepted p lent g c d))
-      (λ d. rw (after-declined d, outcome-declined p lent g c d))
+      (λ d. rw (after-accepted s rs ts ms c d, outcome-accepted p lent g c d))
+      (λ d. rw (after-declined s rs ts ms c d, outcome-declined p lent g c d))
 
   module _ (small : Calls.subject c < 2 ^ 32) (ok : tablesRight s rs ts ≡ true) where
     fits : Fit rs ts
     fits = right-fit rs ts s ok
 
     stands-accepted : isDone (Calls.refusal p lent g c) ≡ true
-        → Stands s rs ts (Calls.after p g c) (written rs ts ms (Calls.accepted p g c) .relays) (written rs ts ms (Calls.accepted p g c) .tablets)
+        → Stands s rs ts (Calls.after p g c) (written listed rs ts ms (Calls.accepted p g c) .lent .relays)
+        (written listed rs ts ms (Calls.accepted p g c) .lent .tablets)
     unfolding written Calls.accepted Calls.after tablesRight
     stands-accepted d =
         let a : Accepted p lent g c = accepted-is p lent g c d in
@@ -78,9 +72,9 @@ module _ (s : ℕ) (rs ts ms : List ℕ) (c : Call) where
           tablets = lengths-again rs ts (Calls.after p g c) (fits .relays) (fits .tablets) (r .relays) (r .tablets) relaysRoom tabletsRoom .1;
         }
 
-    pub call-stands : Stands s rs ts (outcomeOf s rs ts ms c .ring) (after s rs ts ms c .relays) (after s rs ts ms c .tablets)
-    unfolding outcomeOf unchanged Calls.accepted Calls.declined
+    pub call-stands : Stands s rs ts (outcomeOf s rs ts ms c .ring) (after s rs ts ms c .lent .relays) (after s rs ts ms c .lent .tablets)
+    unfolding outcomeOf Calls.accepted Calls.declined
     call-stands =
         split (isDone (Calls.refusal p lent g c))
-        (λ d. rw (after-accepted d, outcome-accepted p lent g c d) (stands-accepted d))
-        (λ d. rw (after-declined d, outcome-declined p lent g c d) (record { ring = refl; right = ok; relays = refl; tablets = refl }))
+        (λ d. rw (after-accepted s rs ts ms c d, outcome-accepted p lent g c d) (stands-accepted d))
+        (λ d. rw (after-declined s rs ts ms c d, outcome-declined p lent g c d) (record { ring = refl; right = ok; relays = refl; tablets = refl }))

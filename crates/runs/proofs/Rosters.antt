@@ -21,7 +21,8 @@ use Rattle.lent.specs.Shape.{relayFits, tabletFits}
 use Rattle.meaning.proofs.Places.{length-places}
 use Rattle.layout.specs.Roster.{shapeRight, relayDistance, relayCount, tabletDistance, tabletCount, rosterScheme, block, rosterRing}
 use Rattle.roster.specs.Content.{numbered, ringRight, contentRight, tablesFit}
-use Rattle.roster.specs.Reading.{refusal, after, settled, taken}
+use Rattle.promise.proofs.Binding.{settled-done}
+use Rattle.roster.specs.Reading.{refusal, refusedReading, taken, after}
 use Rattle.meaning.specs.Meaning.{tablesRight}
 use Rattle.runs.proofs.Again.{ring-again, fit-again, lengths-again}
 use Rattle.runs.proofs.Kept.{Stands}
@@ -90,10 +91,10 @@ module _ (b rs ts : List ℕ) (done : isDone (refusal b rs ts) ≡ true) where
   r = right-is (positions (rosterScheme b)) g ruled
 
   after-taken : after b rs ts ≡ taken b rs ts
-  unfolding after settled
-  after-taken = rw (done, settled)
+  unfolding after
+  after-taken = settled-done (refusal b rs ts) (refusedReading (refusal b rs ts)) (rs, ts) (taken b rs ts) done
 
-  pub read-stands : Stands (rosterScheme b) rs ts g (after b rs ts .relays) (after b rs ts .tablets)
+  pub read-stands : Stands (rosterScheme b) rs ts g (after b rs ts .lent .0) (after b rs ts .lent .1)
   unfolding taken tablesRight
   read-stands =
       rw after-taken

@@ -26,12 +26,14 @@ use Rattle.rule.specs.Refusals as Refusals
 use Rattle.rule.specs.Refusals.{isDone, replied}
 use Rattle.rule.specs.Calls as Calls
 use Rattle.rule.proofs.Right.{right-is}
+use Rattle.promise.specs.Promise as Promised
+use Rattle.promise.specs.Promise.{After, Answers}
 use Rattle.lent.specs.Table as Table
 use Rattle.lent.specs.Shape as Shape
 use Rattle.meaning.specs.Meaning as Meaning
 use Rattle.write.specs.Tables as Tables
 use Rattle.look.specs.Promise as Promise
-use Rattle.look.specs.Promise.{After, after, Answers}
+use Rattle.look.specs.Promise.{Lists, lists, after}
 
 -- ---- an enrolment that moves two, and one that moves nobody
 
@@ -56,40 +58,40 @@ reply relay passed moves = replied Done relay passed moves
 
 -- 3 takes the place of 5, which takes the place of 6; 30 finds room at home
 pub two-enrolments :
-    (after 0 relays tablets list three ≡ record { reply = reply 10 2 2; relays = relays; tablets = 3 ∷ 10 ∷ 5 ∷ 20 ∷ 6 ∷ 30 ∷ []; moves = 5 ∷ 10 ∷ 20 ∷ 6 ∷ 20 ∷ 30 ∷ [] })
-    × (after 0 relays tablets list thirty ≡ record { reply = reply 30 0 0; relays = relays; tablets = 5 ∷ 10 ∷ 6 ∷ 20 ∷ 30 ∷ 30 ∷ []; moves = list })
-unfolding Promise.after Promise.settled Promise.written Promise.unchanged Promise.outcomeOf Meaning.lentOf Meaning.ringOf Meaning.places Meaning.fitTables Meaning.restUnused Shape.relaysUsed Shape.tabletsUsed Shape.used Shape.relayFits Shape.tabletFits Shape.all Shape.unused Table.relayPlaces Table.relayNumber Table.relayLimit Table.relayWhole Table.tabletPlaces Table.tabletNumber Table.tabletRelay Table.tabletWhole Tables.flat Tables.filled Tables.relayTable Tables.tabletTable Tables.flatMoves Tables.listed Scheme.known Scheme.positions Scheme.position Clockwise.clockwise Clockwise.distance Clockwise.sooner Entry.numbers Entry.has Entry.besideOf Entry.insert Entry.delete Entry.put Entry.total Entry.count Entry.load Entry.first Entry.upTo Order.queued Order.order Rule.full Rule.hasRoom Rule.seat Rule.seatAll Rule.placement Rule.rising Rule.limitsFit Rule.same Rule.isJust Rule.right Refusals.isDone Refusals.firstBar Calls.edited Calls.orNobody Calls.after Calls.moved Calls.moves Calls.aheadOf Calls.fullAhead Calls.passed Calls.relayOf Calls.wrongNumbers Calls.refusal Calls.accepted Calls.declined Calls.outcome
+    (after 0 relays tablets list three ≡ record { reply = reply 10 2 2; lent = lists relays (3 ∷ 10 ∷ 5 ∷ 20 ∷ 6 ∷ 30 ∷ []) (5 ∷ 10 ∷ 20 ∷ 6 ∷ 20 ∷ 30 ∷ []) })
+    × (after 0 relays tablets list thirty ≡ record { reply = reply 30 0 0; lent = lists relays (5 ∷ 10 ∷ 6 ∷ 20 ∷ 30 ∷ 30 ∷ []) list })
+unfolding Promise.after Promise.left Promise.written Promised.settled Promise.outcomeOf Meaning.lentOf Meaning.ringOf Meaning.places Meaning.fitTables Meaning.restUnused Shape.relaysUsed Shape.tabletsUsed Shape.used Shape.relayFits Shape.tabletFits Shape.all Shape.unused Table.relayPlaces Table.relayNumber Table.relayLimit Table.relayWhole Table.tabletPlaces Table.tabletNumber Table.tabletRelay Table.tabletWhole Tables.flat Tables.filled Tables.relayTable Tables.tabletTable Tables.flatMoves Tables.listed Scheme.known Scheme.positions Scheme.position Clockwise.clockwise Clockwise.distance Clockwise.sooner Entry.numbers Entry.has Entry.besideOf Entry.insert Entry.delete Entry.put Entry.total Entry.count Entry.load Entry.first Entry.upTo Order.queued Order.order Rule.full Rule.hasRoom Rule.seat Rule.seatAll Rule.placement Rule.rising Rule.limitsFit Rule.same Rule.isJust Rule.right Refusals.isDone Refusals.firstBar Calls.edited Calls.orNobody Calls.after Calls.moved Calls.moves Calls.aheadOf Calls.fullAhead Calls.passed Calls.relayOf Calls.wrongNumbers Calls.refusal Calls.accepted Calls.declined Calls.outcome
 two-enrolments = (refl, refl)
 
 -- ---- the shells
 
 -- what answers every call, whatever is lent
 abbrev pub Way : Type 0
-Way = ℕ → List ℕ → List ℕ → List ℕ → Call → After
+Way = ℕ → List ℕ → List ℕ → List ℕ → Call → After Reply (Lists ℕ)
 
 -- it keeps the promise of the six calls
 abbrev pub Kept : Way → Type 0
-Kept f = (s : ℕ) (rs ts ms : List ℕ) (c : Call) → Answers (after s rs ts ms c) (f s rs ts ms c .reply) (f s rs ts ms c .relays) (f s rs ts ms c .tablets) (f s rs ts ms c .moves)
+Kept f = (s : ℕ) (rs ts ms : List ℕ) (c : Call) → Answers (after s rs ts ms c) (f s rs ts ms c .reply) (f s rs ts ms c .lent)
 
 -- there is such a way: what document 01 gives
 pub kept-by-after : Kept after
-kept-by-after s rs ts ms c = record { reply = refl; relays = refl; tablets = refl; moves = refl }
+kept-by-after s rs ts ms c = record { reply = refl; lent = refl }
 
 module _ (f : Way) (kept : Kept f) where
-  abbrev gave : Call → After
+  abbrev gave : Call → After Reply (Lists ℕ)
   gave c = f 0 relays tablets list c
 
   to-three : gave three .reply ≡ reply 10 2 2
-  to-three = kept 0 relays tablets list three .reply ∙ ap (λ (a : After). a .reply) (two-enrolments .0)
+  to-three = kept 0 relays tablets list three .reply ∙ ap (λ (a : After Reply (Lists ℕ)). a .reply) (two-enrolments .0)
 
   to-thirty : gave thirty .reply ≡ reply 30 0 0
-  to-thirty = kept 0 relays tablets list thirty .reply ∙ ap (λ (a : After). a .reply) (two-enrolments .1)
+  to-thirty = kept 0 relays tablets list thirty .reply ∙ ap (λ (a : After Reply (Lists ℕ)). a .reply) (two-enrolments .1)
 
-  tablets-three : gave three .tablets ≡ 3 ∷ 10 ∷ 5 ∷ 20 ∷ 6 ∷ 30 ∷ []
-  tablets-three = kept 0 relays tablets list three .tablets ∙ ap (λ (a : After). a .tablets) (two-enrolments .0)
+  tablets-three : gave three .lent .tablets ≡ 3 ∷ 10 ∷ 5 ∷ 20 ∷ 6 ∷ 30 ∷ []
+  tablets-three = ap (λ (l : Lists ℕ). l .tablets) (kept 0 relays tablets list three .lent) ∙ ap (λ (a : After Reply (Lists ℕ)). a .lent .tablets) (two-enrolments .0)
 
-  moves-three : gave three .moves ≡ 5 ∷ 10 ∷ 20 ∷ 6 ∷ 20 ∷ 30 ∷ []
-  moves-three = kept 0 relays tablets list three .moves ∙ ap (λ (a : After). a .moves) (two-enrolments .0)
+  moves-three : gave three .lent .moves ≡ 5 ∷ 10 ∷ 20 ∷ 6 ∷ 20 ∷ 30 ∷ []
+  moves-three = ap (λ (l : Lists ℕ). l .moves) (kept 0 relays tablets list three .lent) ∙ ap (λ (a : After Reply (Lists ℕ)). a .lent .moves) (two-enrolments .0)
 
   pub refuses-everything : ((s : ℕ) (rs ts ms : List ℕ) (c : Call) → isDone (f s rs ts ms c .reply .refusal) ≡ false) → ⊥
   unfolding isDone
@@ -100,13 +102,13 @@ module _ (f : Way) (kept : Kept f) where
       let e : _≡_ {A = ℕ} 10 30 = ap (λ (x : Reply). x .relay .0) (sym to-three ∙ h 0 relays tablets list three ∙ sym (h 0 relays tablets list thirty) ∙ to-thirty) in
       omega arith
 
-  pub tables-untouched : ((s : ℕ) (rs ts ms : List ℕ) (c : Call) → f s rs ts ms c .tablets ≡ ts) → ⊥
+  pub tables-untouched : ((s : ℕ) (rs ts ms : List ℕ) (c : Call) → f s rs ts ms c .lent .tablets ≡ ts) → ⊥
   tables-untouched h =
       let e : _≡_ {A = ℕ} 3 5 = ap (λ (l : List ℕ). getD l 0 0) (sym tablets-three ∙ h 0 relays tablets list three) in
       omega arith
 
   -- 3 and 5 sit down, and 6 stays although its place is taken; the reply, and the move list too, may say what they like
-  pub first-displacement : gave three .tablets ≡ 3 ∷ 10 ∷ 5 ∷ 20 ∷ 6 ∷ 20 ∷ [] → ⊥
+  pub first-displacement : gave three .lent .tablets ≡ 3 ∷ 10 ∷ 5 ∷ 20 ∷ 6 ∷ 20 ∷ [] → ⊥
   first-displacement h =
       let e : _≡_ {A = ℕ} 30 20 = ap (λ (l : List ℕ). getD l 5 0) (sym tablets-three ∙ h) in
       omega arith
@@ -129,7 +131,7 @@ module _ (f : Way) (kept : Kept f) where
   moves-invented = invented (λ r. r .moves) (λ e. omega (arith, e))
 
   -- the count alone is told
-  pub list-untouched : ((s : ℕ) (rs ts ms : List ℕ) (c : Call) → f s rs ts ms c .moves ≡ ms) → ⊥
+  pub list-untouched : ((s : ℕ) (rs ts ms : List ℕ) (c : Call) → f s rs ts ms c .lent .moves ≡ ms) → ⊥
   list-untouched h =
       let e : _≡_ {A = ℕ} 5 0 = ap (λ (l : List ℕ). getD l 0 0) (sym moves-three ∙ h 0 relays tablets list three) in
       omega arith

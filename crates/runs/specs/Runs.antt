@@ -3,8 +3,10 @@
 use mathlib.Core.List.{List, [], _∷_}
 use Prim.Native.Nat.{ℕ}
 use Rattle.rule.specs.declared.Call.{Call}
+use Rattle.rule.specs.declared.Reply.{Reply}
+use Rattle.promise.specs.Promise.{After}
 use Rattle.tally.specs.Counted.{tallied}
-use Rattle.look.specs.Promise.{After, after}
+use Rattle.look.specs.Promise.{Lists, after}
 
 -- all that a station lends
 pub record Memory : Type 0 where
@@ -16,8 +18,8 @@ pub record Memory : Type 0 where
 -- what stands there afterwards, as the call promises
 unfoldable pub called : ℕ → Memory → Call → Memory
 called s m c =
-    let a : After = after s (m .relays) (m .tablets) (m .moves) c in
-    record { relays = a .relays; tablets = a .tablets; moves = a .moves; tally = tallied (m .tally) c (a .reply) }
+    let a : After Reply (Lists ℕ) = after s (m .relays) (m .tablets) (m .moves) c in
+    record { relays = a .lent .relays; tablets = a .lent .tablets; moves = a .lent .moves; tally = tallied (m .tally) c (a .reply) }
 
 unfoldable pub calledAll : ℕ → Memory → List Call → Memory
 calledAll s m [] = m

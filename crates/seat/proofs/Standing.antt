@@ -21,7 +21,8 @@ use Rattle.survey.specs.declared.Survey.{Survey}
 use Rattle.meaning.specs.Meaning.{tabletsIn, ringOf, lentOf}
 use Rattle.meaning.proofs.Places.{beside-places}
 use Rattle.look.specs.Start.{Start}
-use Rattle.look.specs.Promise.{after, Answers}
+use Rattle.promise.specs.Promise.{Answers}
+use Rattle.look.specs.Promise.{lists, after}
 use Rattle.look.proofs.Refusing.{start-rises, start-ring, number-refused, refused-answers}
 use Rattle.spot.specs.Spot.{missing}
 use Rattle.seat.specs.declared.Seat.{Seat}
@@ -40,7 +41,7 @@ module _ {s : ℕ} {rs ts : List ℕ} {n m : ℕ} {v : Survey} (b : Start s rs t
   pub seat-refused : {seat : Seat} → SeatOf ts n m (v .home) (v .slot) (t .0) seat → {done : Bool} → done ≡ isDone (seat .refusal) → not done ≡ true
       → {reply : Reply} → reply ≡ refusedBy (seat .refusal) → (c : Call)
       → ((lent : Lent) → firstBar (wrongNumbers lent (ringOf rs ts) c) ≡ missing (t .0) (has (tabletsIn ts m) (t .0))) → (ms : List ℕ)
-      → Answers (after s rs ts ms c) reply rs ts ms
+      → Answers (after s rs ts ms c) reply (lists rs ts ms)
   seat-refused {seat} f ed h {reply} ep c e ms =
       let no : isDone (seat .refusal) ≡ false = sym ed ∙ not-true _ h in
       refused-answers s rs ts ms c (seat .refusal) (number-refused s rs ts ms c b (seat .refusal) (e (lentOf s rs ts ms) ∙ sym (f .refusal)) no) no reply ep

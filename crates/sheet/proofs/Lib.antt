@@ -4,7 +4,6 @@ pub mod Filling
 pub mod Pointing
 pub mod Laying
 pub mod Sheeting
-pub mod Binding
 pub mod Examples
 pub mod Holding
 pub mod Unchanged

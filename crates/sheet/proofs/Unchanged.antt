@@ -6,24 +6,29 @@ use mathlib.Core.Bool.{false}
 use mathlib.Core.List.{List}
 use mathlib.Core.Path.{_≡_, sym, ap, _∙_}
 use Prim.Native.Nat.{ℕ}
+use Rattle.ring.proofs.Tests.{split}
 use Rattle.rule.specs.declared.Refusal.{Refusal}
 use Rattle.rule.specs.declared.Reply.{Reply}
 use Rattle.rule.specs.Refusals.{isDone, refusedBy}
-use Rattle.sheet.specs.Promise.{sheetRefusal, settled, after, Answers}
+use Rattle.promise.specs.Promise.{Answers}
+use Rattle.promise.proofs.Binding as Promise
+use Rattle.promise.proofs.Binding.{settled-done, settled-refused}
+use Rattle.sheet.specs.Promise.{sheetRefusal, after}
 
 module _ (s : ℕ) (rs ts lent : List ℕ) {r : Reply} {lent′ : List ℕ} (a : Answers (after s rs ts lent) r lent′) where
   abbrev why : Refusal
   why = sheetRefusal s rs ts lent
 
-  replied : r ≡ refusedBy why
+  replied : after s rs ts lent .reply ≡ refusedBy why
   unfolding after
-  replied = a .reply
+  replied =
+      split (isDone why)
+      (λ d. rw (settled-done why (refusedBy why) lent _ d))
+      (λ d. rw (settled-refused why (refusedBy why) lent _ d))
 
   pub reply-zeros : r ≡ refusedBy (r .refusal)
-  reply-zeros = replied ∙ ap (λ (x : Reply). refusedBy (x .refusal)) (sym replied)
+  reply-zeros = a .reply ∙ replied ∙ ap (λ (x : Reply). refusedBy (x .refusal)) (sym (a .reply ∙ replied))
 
   pub refused-stays : isDone (r .refusal) ≡ false → lent′ ≡ lent
-  unfolding after settled
-  refused-stays f =
-      let d : isDone why ≡ false = ap (λ (x : Reply). isDone (x .refusal)) (sym replied) ∙ f in
-      a .sheet ∙ rw (d, settled)
+  unfolding after
+  refused-stays f = Promise.refused-stays why (refusedBy why) lent _ (λ x. x .refusal) (λ d. d) a f .1

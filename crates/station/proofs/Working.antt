@@ -1,5 +1,5 @@
 -- From a call on the numbers of a move list to what it did for a list of records (`works`). Assumes nothing.
-use mathlib.Core.List.{List, _++_}
+use mathlib.Core.List.{List, [], _++_}
 use mathlib.Core.Path.{_≡_, sym, ap, ap₂, _∙_}
 use Prim.Native.Nat.{ℕ, _*_, _/_, _-_, _≤_, min}
 use native.Mathlib.Omega.{arith}
@@ -11,13 +11,14 @@ use Rattle.rule.specs.declared.Move.{Move}
 use Rattle.rule.specs.declared.Reply.{Reply}
 use Rattle.rule.specs.Calls.{Outcome}
 use Rattle.lent.specs.Table.{mostTablets}
+use Rattle.promise.specs.Promise.{Answers}
 use Rattle.meaning.specs.Meaning.{ringOf, lentOf}
 use Rattle.write.specs.Tables.{flatMoves, listed}
-use Rattle.write.proofs.Listed.{length-moves}
-use Rattle.look.specs.Promise.{outcomeOf, settled, after, Answers}
-use Rattle.station.specs.Promise.{lentWith, outcomeWith, tablesAfter}
+use Rattle.write.proofs.Listed.{length-moves, listed-none}
+use Rattle.look.specs.Promise.{outcomeOf, Lists, lists, left, after}
+use Rattle.station.specs.Promise.{lentWith, outcomeWith, recorded, tablesAfter}
 use Rattle.station.specs.Working.{Works}
-use Rattle.station.proofs.Outcomes.{outcome-count, outcome-fits, settled-reply, settled-relays, settled-tablets, settled-moves}
+use Rattle.station.proofs.Outcomes.{outcome-count, outcome-fits, left-reply, left-relays, left-tablets, left-moves}
 use Rattle.station.proofs.Room.{outcome-room}
 
 -- the moves stand first, whatever comes behind the list
@@ -43,22 +44,23 @@ module _ (s : ℕ) (rs ts : List ℕ) (room : ℕ) (c : Call) where
       let k : length ms / 3 ≡ min room mostTablets = omega (arith, h) in
       ap (λ (n : ℕ). outcomeWith s rs ts n c) k ∙ outcome-room s rs ts room c
 
-  pub works : (ms rest : List ℕ) {r : Reply} {ms′ numbers rs′ ts′ : List ℕ} → Answers (after s rs ts ms c) r rs′ ts′ ms′
+  pub works : (ms rest : List ℕ) {r : Reply} {ms′ numbers rs′ ts′ : List ℕ} → Answers (after s rs ts ms c) r (lists rs′ ts′ ms′)
       → length ms ≡ 3 * min room mostTablets → numbers ≡ ms′ ++ rest → Works s rs ts room c r numbers rs′ ts′
   unfolding after tablesAfter outcomeOf outcomeWith lentOf
   works ms rest {r = r} a h e =
       let same : outcomeOf s rs ts ms c ≡ o = outcome-scratch ms h in
-      let reply : r ≡ o .reply = a .reply ∙ settled-reply rs ts ms (outcomeOf s rs ts ms c) ∙ ap (λ (x : Outcome). x .reply) same in
+      let reply : r ≡ o .reply = a .reply ∙ left-reply listed rs ts ms (outcomeOf s rs ts ms c) ∙ ap (λ (x : Outcome). x .reply) same in
       let count : r .moves ≡ length (o .moves) = ap (λ (x : Reply). x .moves) reply ∙ outcome-count (positions s) (lentWith s rs ts room) (ringOf rs ts) c in
       let few : length (o .moves) ≤ length ms / 3 = rw (sym same) (outcome-fits (positions s) (lentOf s rs ts ms) (ringOf rs ts) c) in
-      let listing : settled rs ts ms (outcomeOf s rs ts ms c) .moves ≡ listed (outcomeOf s rs ts ms c .moves) ms = settled-moves (positions s) (lentOf s rs ts ms) (ringOf rs ts) c rs ts ms in
+      let listing : left listed rs ts ms (outcomeOf s rs ts ms c) .lent .moves ≡ listed (outcomeOf s rs ts ms c .moves) ms =
+      left-moves (positions s) (lentOf s rs ts ms) (ringOf rs ts) c listed rs ts ms (listed-none ms) in
       record {
         reply = reply;
-        relays = a .relays ∙ settled-relays rs ts ms (outcomeOf s rs ts ms c) ∙ ap (λ (x : Outcome). tablesAfter rs ts x .relays) same;
-        tablets = a .tablets ∙ settled-tablets rs ts ms (outcomeOf s rs ts ms c) ∙ ap (λ (x : Outcome). tablesAfter rs ts x .tablets) same;
+        relays = ap (λ (l : Lists ℕ). l .relays) (a .lent) ∙ left-relays listed rs ts ms (outcomeOf s rs ts ms c) recorded [] ∙ ap (λ (x : Outcome). tablesAfter rs ts x .relays) same;
+        tablets = ap (λ (l : Lists ℕ). l .tablets) (a .lent) ∙ left-tablets listed rs ts ms (outcomeOf s rs ts ms c) recorded [] ∙ ap (λ (x : Outcome). tablesAfter rs ts x .tablets) same;
         count = count;
         moves =
-            ap₂ (λ (k : ℕ) (l : List ℕ). take (3 * k) l) count (e ∙ ap (λ (l : List ℕ). l ++ rest) (a .moves ∙ listing ∙ ap (λ (x : Outcome). listed (x .moves) ms) same))
+            ap₂ (λ (k : ℕ) (l : List ℕ). take (3 * k) l) count (e ∙ ap (λ (l : List ℕ). l ++ rest) (ap (λ (x : Lists ℕ). x .moves) (a .lent) ∙ listing ∙ ap (λ (x : Outcome). listed (x .moves) ms) same))
             ∙ listed-first (o .moves) ms rest (omega (arith, few));
         fits = omega (arith, count, few, h);
         few = omega (arith, count, few, h);

@@ -1,7 +1,6 @@
 -- What a call promises to a station that lends a list of move records and a tally (document 01, "The lent tables", "Sheet, balance, tally"):
 -- the full reply and every lent place afterwards, for accepted and refused calls alike. Assumes nothing.
 use mathlib.Core.List.{List, [], _++_}
-use mathlib.Core.Path.{_≡_}
 use Prim.Native.Nat.{ℕ}
 use lib.ListN.{length, drop}
 use Rattle.ring.specs.Scheme.{known, positions}
@@ -11,9 +10,10 @@ use Rattle.rule.specs.declared.Reply.{Reply}
 use Rattle.rule.specs.declared.Tally.{Tally}
 use Rattle.rule.specs.Calls.{Lent, Outcome, outcome}
 use Rattle.rule.specs.Tally.{counted}
+use Rattle.promise.specs.Promise.{After, withTally}
 use Rattle.lent.specs.Table.{relayPlaces, tabletPlaces}
 use Rattle.meaning.specs.Meaning.{ringOf, fitTables}
-use Rattle.look.specs.Promise.{After, settled}
+use Rattle.look.specs.Promise.{Lists, left}
 
 -- the tables, and a move list with so many places
 unfoldable pub lentWith : ℕ → List ℕ → List ℕ → ℕ → Lent
@@ -24,18 +24,14 @@ lentWith scheme rs ts room =
 unfoldable pub outcomeWith : ℕ → List ℕ → List ℕ → ℕ → Call → Outcome
 outcomeWith scheme rs ts room c = outcome (positions scheme) (lentWith scheme rs ts room) (ringOf rs ts) c
 
--- the reply and the tables, as for a call on number slices
-unfoldable pub tablesAfter : List ℕ → List ℕ → Outcome → After
-tablesAfter rs ts o = settled rs ts [] o
-
 -- the moves come first; records behind the last move stay as they were
 unfoldable pub recorded : List Move → List Move → List Move
 recorded ms list = ms ++ drop (length ms) list
 
--- the reply and everything lent, once the call is over
-pub record Attends (s : ℕ) (rs ts : List ℕ) (list : List Move) (t : Tally) (c : Call) (r : Reply) (rs′ ts′ : List ℕ) (list′ : List Move) (t′ : Tally) : Type 0 where
-  pub reply : r ≡ outcomeWith s rs ts (length list) c .reply
-  pub relays : rs′ ≡ tablesAfter rs ts (outcomeWith s rs ts (length list) c) .relays
-  pub tablets : ts′ ≡ tablesAfter rs ts (outcomeWith s rs ts (length list) c) .tablets
-  pub moves : list′ ≡ recorded (outcomeWith s rs ts (length list) c .moves) list
-  pub counted : t′ ≡ counted t c (outcomeWith s rs ts (length list) c .reply)
+-- the tables, whatever list of moves is lent
+unfoldable pub tablesAfter : List ℕ → List ℕ → Outcome → Lists Move
+tablesAfter rs ts o = left recorded rs ts [] o .lent
+
+-- the promise of a call, with its moves as records, and the tally with the call counted
+unfoldable pub attended : ℕ → List ℕ → List ℕ → List Move → Tally → Call → After Reply (Lists Move × Tally)
+attended s rs ts list t c = withTally (counted t c) (left recorded rs ts list (outcomeWith s rs ts (length list) c))

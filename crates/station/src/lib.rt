@@ -4,9 +4,11 @@ ghost use mathlib.Core.Path.{_≡_};
 ghost use Prim.Native.Nat.{_+_, _*_, _<_, _≤_, min};
 ghost use lib.ListN.{length};
 ghost use Rattle.rule.specs.Tally.{counted};
+ghost use Rattle.promise.specs.Promise.{Answers};
+ghost use Rattle.look.specs.Promise.{lists};
 ghost use Rattle.station.specs.Handing.{moveAt, handed};
 ghost use Rattle.station.specs.Working.{Works};
-ghost use Rattle.station.specs.Promise.{Attends};
+ghost use Rattle.station.specs.Promise.{attended};
 
 // No call makes more moves than a tablet table may have places.
 const MOST_MOVES: usize = 4096;
@@ -84,7 +86,8 @@ pub fn call(
     t: &mut rule::Tally,
     c: rule::Call,
 ) -> rule::Reply
-    ensures { λ r. ⌜ Attends scheme (now (relays .entry)) (now (tablets .entry)) (now (list .entry)) (now (t .entry)) c r (now (relays .exit)) (now (tablets .exit)) (now (list .exit)) (now (t .exit)) ⌝ }
+    ensures { λ r. ⌜ Answers (attended scheme (now (relays .entry)) (now (tablets .entry)) (now (list .entry)) (now (t .entry)) c)
+        r (lists (now (relays .exit)) (now (tablets .exit)) (now (list .exit)), now (t .exit)) ⌝ }
 {
     let mut numbers = [0u32; 12288];
     let r = work_on(scheme, relays, tablets, &mut numbers, list.len(), c);

@@ -21,9 +21,9 @@ replyNumbers r = numberOf (r .refusal) ∷ r .relay .0 ∷ r .passed ∷ r .move
 pub record Serves (s : ℕ) (rs ts ms tally : List ℕ) (c : Call) (answer : ℕ) (reply rs′ ts′ ms′ tally′ : List ℕ) : Type 0 where
   pub answered : answer ≡ numberOf (after s rs ts ms c .reply .refusal)
   pub replied : reply ≡ replyNumbers (after s rs ts ms c .reply)
-  pub relays : rs′ ≡ after s rs ts ms c .relays
-  pub tablets : ts′ ≡ after s rs ts ms c .tablets
-  pub moves : ms′ ≡ after s rs ts ms c .moves
+  pub relays : rs′ ≡ after s rs ts ms c .lent .relays
+  pub tablets : ts′ ≡ after s rs ts ms c .lent .tablets
+  pub moves : ms′ ≡ after s rs ts ms c .lent .moves
   pub counted : tally′ ≡ tallied tally c (after s rs ts ms c .reply)
 
 -- the number answered, and the limit
@@ -34,7 +34,7 @@ pub record Shares (p q tablets relays answer out : ℕ) : Type 0 where
 -- the number answered, and the lent sheet afterwards; the rest of the reply is 0 in every case
 pub record Lays (s : ℕ) (rs ts lent : List ℕ) (answer : ℕ) (lent′ : List ℕ) : Type 0 where
   pub answered : answer ≡ numberOf (Sheet.after s rs ts lent .reply .refusal)
-  pub sheet : lent′ ≡ Sheet.after s rs ts lent .sheet
+  pub sheet : lent′ ≡ Sheet.after s rs ts lent .lent
 
 -- the length answered, and the start: those of the part of the lent sheet
 pub record Spans (s : ℕ) (rs ts lent : List ℕ) (relay answer out : ℕ) : Type 0 where
@@ -43,7 +43,7 @@ pub record Spans (s : ℕ) (rs ts lent : List ℕ) (relay answer out : ℕ) : Ty
 
 -- the number answered, the scheme and the lent tables afterwards; the rest of the reply is 0 in every case
 pub record Reads (b rs ts : List ℕ) (answer out : ℕ) (rs′ ts′ : List ℕ) : Type 0 where
-  pub answered : answer ≡ numberOf (Roster.after b rs ts .reply .refusal)
-  pub scheme : out ≡ Roster.after b rs ts .scheme
-  pub relays : rs′ ≡ Roster.after b rs ts .relays
-  pub tablets : ts′ ≡ Roster.after b rs ts .tablets
+  pub answered : answer ≡ numberOf (Roster.after b rs ts .reply .reply .refusal)
+  pub scheme : out ≡ Roster.after b rs ts .reply .scheme
+  pub relays : rs′ ≡ Roster.after b rs ts .lent .0
+  pub tablets : ts′ ≡ Roster.after b rs ts .lent .1

@@ -32,7 +32,8 @@ use Rattle.meaning.specs.Meaning.{relaysIn, tabletsIn, ringOf, lentOf}
 use Rattle.meaning.proofs.Places.{has-place}
 use Rattle.write.specs.Tables.{flat, filled, tabletTable, listed}
 use Rattle.write.proofs.Filled.{tablets-taken}
-use Rattle.look.specs.Promise.{after, Answers}
+use Rattle.promise.specs.Promise.{Answers}
+use Rattle.look.specs.Promise.{lists, after}
 use Rattle.look.specs.Start.{Start}
 use Rattle.look.proofs.Refusing.{start-rises, start-ring, list-refused, all-passed, refused-answers, accepted-answers}
 use Rattle.look.proofs.Stays.{tablets-whole, tablets-zeros, relays-stay}
@@ -90,7 +91,7 @@ module _ {s : ℕ} {rs ts : List ℕ} {n m : ℕ} {v : Survey} (b : Start s rs t
         ap length moves-are ∙ length-moves ts (tabletRelay ts (seat .at)) (take (chain .count) (chain .places))
         ∙ length-take-le (chain .count) (chain .places) (omega (arith, c .few, c .size))
 
-    pub withdraw-short : length ms / 3 < chain .count → {reply : Reply} → reply ≡ refusedBy MoveListTooShort → Answers (after s rs ts ms (Withdraw t)) reply rs ts ms
+    pub withdraw-short : length ms / 3 < chain .count → {reply : Reply} → reply ≡ refusedBy MoveListTooShort → Answers (after s rs ts ms (Withdraw t)) reply (lists rs ts ms)
     unfolding isDone
     withdraw-short l {reply} e =
         refused-answers s rs ts ms (Withdraw t) MoveListTooShort
@@ -118,7 +119,7 @@ module _ {s : ℕ} {rs ts : List ℕ} {n m : ℕ} {v : Survey} (b : Start s rs t
             ∙ rw (← stands .number) (ap (λ (x : List Move). seated x (delete (tabletNumber ts (seat .at)) (tabletsIn ts m))) (sym (chain-moves b (seat .at) (stands .below))))
             ∙ ap (λ (x : List ℕ). seated (movesOf ts (tabletRelay ts (seat .at)) x) (delete (tabletNumber ts (seat .at)) (tabletsIn ts m))) (sym (c .are))
 
-        pub withdraw-done : Answers (after s rs ts ms (Withdraw t)) (replied Done (seat .relay .0) (seat .passed) (chain .count)) rs ts′ ms′
+        pub withdraw-done : Answers (after s rs ts ms (Withdraw t)) (replied Done (seat .relay .0) (seat .passed) (chain .count)) (lists rs ts′ ms′)
         withdraw-done =
             accepted-answers s rs ts ms (Withdraw t)
             (all-passed s rs ts ms (Withdraw t) b (numbers-fine ms) enough (unfold lentOf in (rw count-is l)))

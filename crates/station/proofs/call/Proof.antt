@@ -148,7 +148,7 @@ module _ {M : Type 1} (𝓤 : URA M) (H : Heap 𝓤) (A : Atoms 𝓤) (W : Given
   exits r vs is numbers zs₀ zs₁ worked n₀ n₁ zs₂ e₂ n₂ t′ e₃ =
       qed W ((‵ (flft κ₃ q₃) ⊛ ‵ ftrue) ∷ ‵ (fres (xt .name) (Ta.the-row .coded .code t′)) ∷ ‵ (flft κ₂ q₂) ∷ ‵ (finally Mv.the-row (xl .name) zs₂) ∷ ‵ (flft κ₁ q₁) ∷ ‵ (flft κ₀ q₀) ∷ ‵ (finally u32 (xb .name) zs₁) ∷ ‵ (finally u32 (xr .name) zs₀) ∷ []) ∵
       suffices ! _ (ends-at 𝓤 H A f.ended stayed (f.clauses 𝓤 H A mem run) W Bound (only (LL.vals Rp.the-type Rp′.the-laws r)) r (tt, (zs₀, (zs₁, (zs₂, (t′, (tt, tt)))))) (tt, (n₀, (n₁, (n₂, (tt, (tt, tt))))))) $
-      says ! (attends worked e₂ e₃) $
+      says ! (attends k (xr .now) (xb .now) (xl .now) (xt .now) c worked e₂ e₃) $
       move ! (2 ∷ 0 ∷ []) $ join ! $ move ! (3 ∷ 0 ∷ []) $ join ! $ move ! (3 ∷ 0 ∷ []) $ join ! $ frame ! $
       -- [the tally's last value; the list's; the tablets'; the relays']
       nothing ! $ owned ! Ca.the-row (Is Ca.the-row) ((EL.makes Ca.the-type Ca′.the-plain) 𝓤 H A) c _ ic $ fjoin ! $ move ! (1 ∷ 0 ∷ []) $ fjoin ! $ move ! (1 ∷ 0 ∷ []) $ fjoin ! $ move ! (1 ∷ 0 ∷ []) $ fjoin ! $ move ! (1 ∷ 0 ∷ []) $ fjoin ! $

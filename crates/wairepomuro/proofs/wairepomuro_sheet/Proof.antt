@@ -17,7 +17,7 @@ same-length c = search needs
 
 returns : tie.Need-returns
 returns c =
-    record { answered = c .number .ensures ∙ ap (λ (r : Reply). numberOf (r .refusal)) (c .before .before .before .sheet .ensures .reply); sheet = c .before .before .before .sheet .ensures .sheet }
+    record { answered = c .number .ensures ∙ ap (λ (r : Reply). numberOf (r .refusal)) (c .before .before .before .sheet .ensures .reply); sheet = c .before .before .before .sheet .ensures .lent }
 
 pub wairepomuro-sheet-spec : {M : Type 1} → statement M
 wairepomuro-sheet-spec = tie.close (tie.spec sheet-requires number-requires same-length returns)
