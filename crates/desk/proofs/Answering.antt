@@ -1,5 +1,4 @@
 -- From what a call did, and from what was put, to the promise of a line.
---   says-text       an answer that was put
 --   answers-said    one to a line that leaves all that is lent
 --   answers-call    one to a call
 -- Assumes nothing.
@@ -13,14 +12,11 @@ use Rattle.calls.specs.Promise.{Keeps}
 use Rattle.text.specs.Puts.{Puts}
 use Rattle.answer.specs.Text.{answerText}
 use Rattle.text.proofs.Putting.{puts-text}
-use Rattle.desk.specs.declared.Stage.{Stage}
-use Rattle.desk.specs.declared.Stage.the-variants.{Under}
-use Rattle.desk.specs.declared.Standing.{Standing}
-use Rattle.desk.specs.Lines.{Said, says, unchanged, called, Says, Answers}
-
-pub says-text : {next : Stage} {out t out′ : List ℕ} {n : ℕ} → Puts out 0 t out′ n → Says (says next t) out (record { stage = next; kept = 0; due = n }) out′
-unfolding says
-says-text p = record { stage = refl; kept = refl; puts = p }
+use Rattle.stage.specs.declared.Stage.the-variants.{Under}
+use Rattle.stage.specs.declared.Standing.{Standing}
+use Rattle.stage.specs.Stage.{Said, Says}
+use Rattle.stage.proofs.Saying.{says-text}
+use Rattle.desk.specs.Lines.{unchanged, called, Answers}
 
 pub answers-said : {s : Said} {rs ts ms out out′ : List ℕ} {r : Standing} → Says s out r out′ → Answers (unchanged rs ts ms s) out r rs ts ms out′
 unfolding unchanged

@@ -1,13 +1,10 @@
--- The promises bind: two standings and two sets of lent lists that they allow are equal.
---   answers-one    for a line
---   takes-one      for a byte
--- Assumes nothing.
+-- The promise of a line binds: two standings and two sets of lent lists that it allows are equal (`answers-one`). Assumes nothing.
 use mathlib.Core.List.{List}
 use mathlib.Core.Path.{_≡_, sym, _∙_}
 use Prim.Native.Nat.{ℕ}
-use Rattle.desk.specs.declared.Standing.{Standing}
-use Rattle.desk.specs.Lines.{Said, After, Says, Answers}
-use Rattle.desk.specs.Bytes.{Takes}
+use Rattle.stage.specs.declared.Standing.{Standing}
+use Rattle.stage.specs.Stage.{Said, Says}
+use Rattle.desk.specs.Lines.{After, Answers}
 
 pub record Same (r r′ : Standing) (rs rs′ ts ts′ ms ms′ out out′ : List ℕ) : Type 0 where
   pub standing : r ≡ r′
@@ -33,8 +30,3 @@ answers-one x y =
       moves = x .moves ∙ sym (y .moves);
       answer = x .answer .puts .places ∙ sym (y .answer .puts .places);
     }
-
-module _ {at : Standing} {rs ts ms line out : List ℕ} {b : ℕ} where
-  pub takes-one : {r₁ r₂ : Standing} {rs₁ rs₂ ts₁ ts₂ ms₁ ms₂ l₁ l₂ out₁ out₂ : List ℕ} → Takes at rs ts ms line out b r₁ rs₁ ts₁ ms₁ l₁ out₁
-      → Takes at rs ts ms line out b r₂ rs₂ ts₂ ms₂ l₂ out₂ → Same r₁ r₂ rs₁ rs₂ ts₁ ts₂ ms₁ ms₂ out₁ out₂ × (l₁ ≡ l₂)
-  takes-one x y = (answers-one (x .answers) (y .answers), x .keeps ∙ sym (y .keeps))

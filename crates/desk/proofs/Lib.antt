@@ -1,7 +1,2 @@
 pub mod Answering
-pub mod Taking
 pub mod Binding
-pub mod Keeping
-pub mod Room
-pub mod Input
-pub mod Sample

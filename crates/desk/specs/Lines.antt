@@ -1,8 +1,6 @@
--- What `watch` does for a line (document 01, "A drill to prove"; docs/DECISIONS.md, reading 9): a right first line is echoed, a call is made and
--- answered, any other line is answered `?`, and such a first line ends the run. Bytes are their numbers in ASCII: 10 ends a line, 63 is `?`.
--- Assumes nothing.
-use mathlib.Core.Bool.{Bool, true, false}
-use mathlib.Core.List.{List, [], _∷_, _++_}
+-- What `watch` does for a line (document 01, "A drill to prove"; docs/DECISIONS.md, reading 9): a call is made and answered, and any other line leaves
+-- all that is lent. Assumes nothing.
+use mathlib.Core.List.{List, []}
 use mathlib.Core.Path.{_≡_}
 use Prim.Native.Nat.{ℕ}
 use Rattle.rule.specs.declared.Reply.{Reply}
@@ -10,41 +8,12 @@ use Rattle.promise.specs.Promise as Promise
 use Rattle.look.specs.Promise as look
 use Rattle.line.specs.declared.Line as lines
 use Rattle.line.specs.declared.Line.the-variants as line
-use Rattle.line.specs.declared.First as firsts
-use Rattle.line.specs.declared.First.the-variants as names
 use Rattle.line.specs.Line.{meaningOf, schemeOf}
-use Rattle.text.specs.Puts.{Puts}
 use Rattle.answer.specs.Text.{answerText}
-use Rattle.desk.specs.declared.Stage.{Stage}
-use Rattle.desk.specs.declared.Stage.the-variants.{First, Under, Over}
-use Rattle.desk.specs.declared.Standing.{Standing}
-
--- no line is read any more
-abbrev pub isOver : Stage → Bool
-isOver First = false
-isOver (Under s) = false
-isOver Over = true
-
--- where the run stands once a line is answered, and the answer
-pub record Said : Type 0 where
-  pub stage : Stage
-  pub kept : ℕ
-  pub text : List ℕ
-
--- nothing is kept of a line that is answered
-unfoldable pub says : Stage → List ℕ → Said
-says next t = record { stage = next; kept = 0; text = t }
-
--- a line of another form
-unfoldable pub other : Stage → Said
-other next = says next (63 ∷ 10 ∷ [])
-
--- a first line, and the scheme that it names
-unfoldable pub first : List ℕ → firsts.First → Said
-first l (names.Scheme s) = says (Under s) (l ++ (10 ∷ []))
-first l names.Other = other Over
-
--- ---- with what is lent
+use Rattle.stage.specs.declared.Stage.{Stage}
+use Rattle.stage.specs.declared.Stage.the-variants.{First, Under, Over}
+use Rattle.stage.specs.declared.Standing.{Standing}
+use Rattle.stage.specs.Stage.{Said, says, other, first, Says}
 
 pub record After : Type 0 where
   pub said : Said
@@ -73,13 +42,7 @@ answered Over rs ts ms l = unchanged rs ts ms (says Over [])
 
 -- ---- the promise
 
--- the run stands there, and the answer is put at the start of the slice that is lent for it, as far as there is room
-pub record Says (s : Said) (out : List ℕ) (r : Standing) (out′ : List ℕ) : Type 0 where
-  pub stage : r .stage ≡ s .stage
-  pub kept : r .kept ≡ s .kept
-  pub puts : Puts out 0 (s .text) out′ (r .due)
-
--- and the lent lists are those
+-- the answer and the lent lists are those
 pub record Answers (a : After) (out : List ℕ) (r : Standing) (rs ts ms out′ : List ℕ) : Type 0 where
   pub answer : Says (a .said) out r out′
   pub relays : rs ≡ a .relays

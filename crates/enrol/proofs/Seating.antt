@@ -15,8 +15,8 @@ use Rattle.rule.proofs.Turning.{seated-append}
 use Rattle.lent.specs.Table.{relayNumber, tabletNumber, tabletRelay, tabletPlaces}
 use Rattle.meaning.specs.Meaning.{tabletsIn}
 use Rattle.write.specs.Tables.{listed}
-use Rattle.write.specs.Listing as Listing
-use Rattle.write.specs.Places.{SetBeside}
+use Rattle.place.specs.Listing as Listing
+use Rattle.place.specs.Places.{SetBeside}
 use Rattle.write.specs.Wrote.{WroteTablets, Climbs}
 use Rattle.write.proofs.Listed.{listed-none, listed-more, length-listed}
 use Rattle.chain.specs.Chain.{linkAt, nameAt, fromAt}

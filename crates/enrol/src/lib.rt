@@ -31,7 +31,7 @@ fn seat_one(
     let t = lent::tablet_number(tablets, j);
     let from = lent::relay_number(relays, old);
     let to = lent::relay_number(relays, new);
-    write::list_move(moves, c, t, from, to);
+    place::list_move(moves, c, t, from, to);
     write::seat_tablet(tablets, m, j, to);
 }
 

@@ -20,9 +20,10 @@ use Rattle.rule.proofs.Puts.{delete-hit, delete-miss, put-hit, put-miss}
 use Rattle.lent.specs.Table.{tabletPlaces, tabletNumber, tabletRelay}
 use Rattle.meaning.specs.Meaning.{tabletsIn}
 use Rattle.write.specs.Tables.{listed}
-use Rattle.write.specs.Listing.{setMove}
+use Rattle.place.specs.Listing.{setMove}
 use Rattle.write.specs.Wrote.{WroteTablets, Climbs}
-use Rattle.write.specs.Places.{SetBeside, TookOut}
+use Rattle.place.specs.Places.{SetBeside}
+use Rattle.write.specs.Places.{TookOut}
 use Rattle.write.proofs.Listed.{listed-none, listed-more, length-listed}
 use Rattle.holes.specs.Holes.{Climbing}
 use Rattle.holes.specs.Filling.{movesOf, Fillers, MovedUp, Filled}

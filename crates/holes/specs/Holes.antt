@@ -7,7 +7,7 @@ use Prim.Native.Nat.{ℕ, zero, suc, _+_, _-_, _%_, _≤_, _<_}
 use lib.Dec.{ltb}
 use lib.ListN.{length, getD, take}
 use Rattle.lent.specs.Table.{mostRelays, mostTablets}
-use Rattle.survey.specs.Row.{slotRoom}
+use Rattle.row.specs.Row.{slotRoom}
 use Rattle.holes.specs.declared.Movers.{Movers}
 
 -- how many slots slot k is clockwise from slot h, on a ring of as many as there may be relays

@@ -107,7 +107,7 @@ fn sit_down(
         let j = ring::from_u16(places[c]);
         let t = lent::tablet_number(tablets, j);
         let old = lent::tablet_relay(tablets, j);
-        write::list_move(moves, c, t, old, new);
+        place::list_move(moves, c, t, old, new);
         write::seat_tablet(tablets, m, j, new);
         new = old;
         c += 1;

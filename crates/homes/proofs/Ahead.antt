@@ -17,7 +17,7 @@ use Rattle.ring.specs.Clockwise.{clockwise, distance, sooner, key}
 use Rattle.ring.proofs.Order.{sooner-key}
 use Rattle.ring.proofs.Round.{clockwise-on, clockwise-round}
 use Rattle.lent.specs.Table.{mostRelays}
-use Rattle.order.specs.Home.{keyAt, Home}
+use Rattle.home.specs.Home.{keyAt, Home}
 use Rattle.nearest.specs.Nearest.{inSlots}
 use Rattle.homes.specs.Shift.{skip}
 use Rattle.homes.specs.Homes.{slotAfter, homeMore}

@@ -9,7 +9,7 @@ use native.Mathlib.Decide.{decLt}
 use native.Mathlib.Omega.{arith}
 use lib.ListN.{getD}
 use Rattle.lent.specs.Table.{mostRelays}
-use Rattle.order.specs.Home.{keyAt, Home}
+use Rattle.home.specs.Home.{keyAt, Home}
 use Rattle.nearest.specs.Nearest.{Enters, itself, round, HomeAt}
 use Rattle.homes.specs.Shift.{skip}
 use Rattle.homes.specs.Homes.{slotAfter, homeMore}

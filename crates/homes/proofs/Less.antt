@@ -12,7 +12,7 @@ use borrow.Author.Tests.{lt-ltb, le-ltb}
 use lib.ListN.{getD}
 use Rattle.lent.specs.Table.{mostRelays}
 use Rattle.order.specs.Keys.{ringKey, slotRelay, Slot, Ordered}
-use Rattle.order.specs.Home.{keyAt, Home}
+use Rattle.home.specs.Home.{keyAt, Home}
 use Rattle.nearest.specs.Nearest.{Enters, itself, round, HomeAt}
 use Rattle.homes.specs.Shift.{skip, KeysLess}
 use Rattle.homes.specs.Homes.{homeLess}

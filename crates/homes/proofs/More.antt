@@ -9,7 +9,7 @@ use native.Mathlib.Omega.{arith}
 use lib.ListN.{getD}
 use Rattle.lent.specs.Table.{mostRelays}
 use Rattle.order.specs.Keys.{ringKey, slotRelay, Slot, Ordered}
-use Rattle.order.specs.Home.{keyAt, Home}
+use Rattle.home.specs.Home.{keyAt, Home}
 use Rattle.homes.specs.Shift.{skip, KeysMore}
 use Rattle.homes.proofs.Skipping.{Skip, low, high, skip-cases, skip-off, skip-one, skip-below, Skipped, at, off, skipped}
 use Rattle.homes.proofs.Lines.{Line, key-place, key-raised}

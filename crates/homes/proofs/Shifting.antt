@@ -17,7 +17,7 @@ use Rattle.ring.specs.Scheme.{Positions}
 use Rattle.lent.specs.Table.{mostRelays}
 use Rattle.lent.proofs.Loops.{stored}
 use Rattle.order.specs.Keys.{slotRelay, Slot}
-use Rattle.order.specs.Home.{keyAt, Home}
+use Rattle.home.specs.Home.{keyAt, Home}
 use Rattle.homes.specs.Shift.{skip, raised, lowered, KeysLess, KeysMore}
 use Rattle.homes.specs.Homes.{HomesMoved, slotAfter, moreAt, PutIn}
 use Rattle.homes.proofs.Skipping.{skip-off, skip-one}

@@ -14,7 +14,7 @@ use Rattle.lent.specs.Table.{mostRelays, relayNumber, tabletNumber}
 use Rattle.lent.specs.Placing.{relayPositions}
 use Rattle.lent.proofs.Loops.{array-at}
 use Rattle.order.specs.Keys.{ringKey, slotRelay, Ordered}
-use Rattle.order.specs.Home.{keyAt, Home}
+use Rattle.home.specs.Home.{keyAt, Home}
 use Rattle.survey.specs.Seats.{HomeByte, Surveyed}
 use Rattle.nearest.specs.Nearest.{itself, round, HomeAt}
 use Rattle.homes.specs.declared.Around.{Around}

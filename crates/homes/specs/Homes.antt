@@ -11,7 +11,7 @@ use Rattle.ring.specs.Clockwise.{sooner}
 use Rattle.lent.specs.Table.{mostRelays, mostTablets, tabletNumber, TabletsIn}
 use Rattle.lent.specs.Placing.{relayPositions}
 use Rattle.order.specs.Keys.{slotRelay, KeysRise, Ordered}
-use Rattle.order.specs.Home.{keyAt, Home}
+use Rattle.home.specs.Home.{keyAt, Home}
 use Rattle.nearest.specs.Nearest.{inSlots, HomeAt}
 use Rattle.homes.specs.Shift.{KeysLess, KeysMore}
 use Rattle.homes.specs.declared.Around.{Around}

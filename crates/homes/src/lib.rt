@@ -206,7 +206,7 @@ pub fn put_in(
 {
     let keys = around.keys;
     let x = (q.0 as u64) * 4294967296 + (at as u64);
-    let s = order::home::advance(&keys, n, 0, x);
+    let s = home::advance(&keys, n, 0, x);
     let more = keys_more(&keys, n, s, at, x);
     let mut home = around.home;
     homes_more(scheme, tablets, &mut home, m, &more, s, slot_after(n, s));

@@ -1,5 +1,4 @@
 -- Laws of the first relay with room in the clockwise order from a position.
---   least-more                     one more relay is looked at
 --   least-low, least-high          the least key is a lower bound, and the greatest
 --   key-open, key-shut             the key of a relay with room and of a full one
 --   first-open                     the first relay with room has room
@@ -10,7 +9,6 @@ use mathlib.Core.Logic.{_⊎_, inl, inr, ⊎-elim}
 use mathlib.Core.Path.{_≡_, refl, sym, subst}
 use Prim.Native.Nat.{ℕ, zero, suc, _+_, _*_, _%_, _^_, _≤_, _<_, min}
 use native.Mathlib.Nat.{not-suc-le-zero}
-use native.Mathlib.Numerals.{add-one}
 use native.Mathlib.Omega.{arith, min-cases}
 use borrow.Author.Tests.{ltb-true, lt-ltb, le-ltb}
 use lib.Dec.{ltb}
@@ -21,11 +19,6 @@ use Rattle.lent.specs.Placing.{nobody, keyFrom, openKey, leastKey, first
 use Rattle.lent.proofs.Loops.{eq-or-ne}
 
 module _ (position room : List ℕ) (t : ℕ) where
-  pub least-more : (i : ℕ) {least k r : ℕ} → least ≡ leastKey position room t i → k ≡ openKey position room t i → r ≡ min least k
-      → r ≡ leastKey position room t (i + 1)
-  unfolding leastKey
-  least-more i d e f = rw (add-one, f, d, e)
-
   pub least-low : (n k : ℕ) → k < n → leastKey position room t n ≤ openKey position room t k
   unfolding leastKey
   least-low zero k l = absurd (not-suc-le-zero l)

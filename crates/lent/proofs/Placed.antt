@@ -1,12 +1,12 @@
 -- Laws of the rule of placement, a tablet at a time.
 --   for-tablet                     what was found from the arrays is the rule's relay for tablet j
---   placed-none, placed-other, placed-there   what is written beside tablet j, against the rule's relay
+--   placed-none, placed-there      what is written beside tablet j, against the rule's relay
 -- Assumes nothing.
 use mathlib.Core.Bool.{true, false}
 use mathlib.Core.List.{List}
 use mathlib.Core.Path.{_≡_, _∙_}
 use Prim.Native.Nat.{ℕ, _≤_, _<_}
-use borrow.Author.Tests.{lt-ltb, le-ltb, eq-eqb, ne-eqb}
+use borrow.Author.Tests.{lt-ltb, le-ltb, eq-eqb}
 use Rattle.ring.specs.Scheme.{Positions}
 use Rattle.lent.specs.Table.{relayNumber, tabletNumber, tabletRelay}
 use Rattle.lent.specs.Placing.{relayPositions, firstWithRoom, roomAfter, relayFor, placedAt}
@@ -21,10 +21,6 @@ module _ (p : Positions) (rs ts : List ℕ) (n j i : ℕ) (e : i ≡ relayFor p 
   pub placed-none : n ≤ i → placedAt p rs ts n j ≡ false
   unfolding placedAt
   placed-none h = rw (← e, le-ltb i n h)
-
-  pub placed-other : i < n → (relayNumber rs i ≡ tabletRelay ts j → ⊥) → placedAt p rs ts n j ≡ false
-  unfolding placedAt
-  placed-other h d = rw (← e, lt-ltb i n h, ne-eqb _ _ d)
 
   pub placed-there : i < n → relayNumber rs i ≡ tabletRelay ts j → placedAt p rs ts n j ≡ true
   unfolding placedAt

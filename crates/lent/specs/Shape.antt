@@ -2,8 +2,7 @@
 -- (a relay's limit, a tablet's relay), and how many places there are. Assumes nothing.
 use mathlib.Core.Bool.{Bool, true, _&&_, cond}
 use mathlib.Core.List.{List}
-use mathlib.Core.Path.{_≡_}
-use Prim.Native.Nat.{ℕ, zero, suc, _+_, _-_, _^_, _≤_, _<_}
+use Prim.Native.Nat.{ℕ, zero, suc, _+_, _-_, _^_}
 use lib.Dec.{eqb, ltb, leb}
 use Rattle.rule.specs.Rule.{mostLimit}
 use Rattle.lent.specs.Table.{mostRelays, relayPlaces, relayNumber, relayLimit, relayWhole, mostTablets, tabletPlaces, tabletNumber, tabletRelay, tabletWhole}
@@ -43,13 +42,6 @@ unusedAt number beside n i = unused (number (n + i)) (beside (n + i))
 unfoldable pub shape : ℕ → (ℕ → ℕ) → (ℕ → ℕ) → ℕ → ℕ → Bool
 shape top number beside n places = leb n places && (all (entryAt top number beside) n && all (unusedAt number beside n) (places - n))
 
--- from place low to place high, somewhere, the numbers stop: there is one before low, and none at high
-pub record Edge (number : ℕ → ℕ) (places low high : ℕ) : Type 0 where
-  pub order : low ≤ high
-  pub within : high ≤ places
-  pub some : (i : ℕ) → i + 1 ≡ low → 0 < number i
-  pub none : high < places → number high ≡ 0
-
 -- ---- the two tables
 
 -- what stands beside a tablet may be any 32-bit number
@@ -75,13 +67,3 @@ relayShape rs n = relayFits rs && shape mostLimit (relayNumber rs) (relayLimit r
 
 unfoldable pub tabletShape : List ℕ → ℕ → Bool
 tabletShape ts m = tabletFits ts && shape topNumber (tabletNumber ts) (tabletRelay ts) m (tabletPlaces ts)
-
--- ---- the entries of a lent table, where it is as it must be
-
-pub record RelayEntries (rs : List ℕ) (right : Bool) (n : ℕ) : Type 0 where
-  pub test : right ≡ relayShape rs (relaysUsed rs)
-  pub count : right ≡ true → n ≡ relaysUsed rs
-
-pub record TabletEntries (ts : List ℕ) (right : Bool) (m : ℕ) : Type 0 where
-  pub test : right ≡ tabletShape ts (tabletsUsed ts)
-  pub count : right ≡ true → m ≡ tabletsUsed ts

@@ -1,10 +1,5 @@
 // The lent tables (document 01, "The lent tables"): where a relay and a tablet stand in them, and whether the places are whole and not
-// too many. `shape` tests how the entries stand, `entries` finds how many there are, and `placing` asks whether the relays beside the
-// tablets are the rule's.
-pub mod entries;
-pub mod placing;
-pub mod shape;
-
+// too many.
 ghost use mathlib.Core.Path.{_≡_};
 ghost use mathlib.Core.Bool.{_&&_};
 ghost use Prim.Native.Nat.{_<_};
@@ -73,7 +68,8 @@ pub fn tablet_whole(tablets: &[u32]) -> bool
 
 // ---- do they fit?
 
-fn both(a: bool, b: bool) -> bool
+// Two tests as one, also where a loop may have no branch.
+pub fn both(a: bool, b: bool) -> bool
     ensures { λ r. ⌜ r ≡ (a && b) ⌝ }
 {
     if a { b } else { false }

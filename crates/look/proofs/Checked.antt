@@ -17,7 +17,7 @@ use Rattle.lent.specs.Shape.{all}
 use Rattle.lent.specs.Placing.{placed, right}
 use Rattle.survey.specs.declared.Survey.{Survey}
 use Rattle.survey.specs.Seats.{Surveyed}
-use Rattle.survey.specs.Tables.{ShapesOf}
+use Rattle.entries.specs.Entries.{ShapesOf}
 use Rattle.meaning.specs.Meaning.{tablesRight, tablesBars, tablesRefusal, Words}
 use Rattle.meaning.proofs.Right.{right-meaning}
 use Rattle.look.specs.declared.First.{First}

@@ -1,5 +1,6 @@
 // What every call starts from: is the scheme known, are the lent tables right, and what did the check learn?
 ghost use mathlib.Core.Path.{_≡_};
+ghost use Rattle.meaning.specs.Meaning.{tablesRefusal};
 ghost use Rattle.look.specs.Start.{FirstLook, verdict, Looks};
 
 pub struct Looked {
@@ -24,7 +25,7 @@ fn first_look(scheme: u32, relays: &[u32], tablets: &[u32]) -> First
     if !known {
         return barred(rule::Refusal::SchemeUnknown);
     }
-    let s = survey::shapes(relays, tablets);
+    let s = entries::shapes(relays, tablets);
     if !s.right {
         return barred(rule::Refusal::TablesNotRight);
     }
@@ -70,4 +71,18 @@ pub fn look(scheme: u32, relays: &[u32], tablets: &[u32]) -> Looked
         m: f.m,
         survey: survey,
     }
+}
+
+// What a look refuses, for whoever asks nothing else: nothing that was learnt is handed on.
+pub fn check(scheme: u32, relays: &[u32], tablets: &[u32]) -> rule::Refusal
+    ensures { λ r. ⌜ r ≡ tablesRefusal scheme (now (relays .entry)) (now (tablets .entry)) ⌝ }
+{
+    let f = first_look(scheme, relays, tablets);
+    let first = f.refusal;
+    let open = rule::done(first);
+    if !open {
+        return first;
+    }
+    let survey = survey::look_over(scheme, relays, tablets, f.n, f.m);
+    verdict(first, survey.right)
 }

@@ -10,7 +10,7 @@ use lib.ListN.{getD}
 use Rattle.ring.specs.Clockwise.{clockwise, distance}
 use Rattle.lent.specs.Table.{mostRelays}
 use Rattle.order.specs.Keys.{ringKey, slotRelay, KeysRise, Ordered}
-use Rattle.order.specs.Home.{keyAt}
+use Rattle.home.specs.Home.{keyAt}
 use Rattle.nearest.specs.Nearest.{inSlots, Nearest, itself, round, HomeAt}
 use Rattle.nearest.proofs.Nearer.{behind-is}
 

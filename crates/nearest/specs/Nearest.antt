@@ -7,7 +7,7 @@ use Prim.Native.Nat.{ℕ, _-_, _/_, _^_, _≤_, _<_}
 use lib.ListN.{getD}
 use Rattle.ring.specs.Scheme.{Positions}
 use Rattle.ring.specs.Clockwise.{sooner}
-use Rattle.order.specs.Home.{keyAt, Home}
+use Rattle.home.specs.Home.{keyAt, Home}
 
 -- slots as relays, each where its key says, and every position as a tablet that stands there
 abbrev pub inSlots : List ℕ → Positions

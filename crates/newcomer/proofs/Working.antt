@@ -36,8 +36,8 @@ use Rattle.lent.specs.Table.{mostRelays, relayNumber, relayLimit, tabletNumber,
 use Rattle.order.specs.Keys.{slotRelay}
 use Rattle.nearest.specs.Nearest.{Nearest}
 use Rattle.survey.specs.declared.Survey.{Survey}
-use Rattle.survey.specs.Row.{slotRoom, Leads, Row}
-use Rattle.survey.proofs.Leading.{leads-at}
+use Rattle.row.specs.Row.{slotRoom, Leads, Row}
+use Rattle.row.proofs.Leading.{leads-at}
 use Rattle.meaning.specs.Meaning.{places, relaysIn, tabletsIn, ringOf, lentOf}
 use Rattle.meaning.proofs.Choice.{roomed}
 use Rattle.meaning.proofs.Places.{length-places}

@@ -20,7 +20,7 @@ use Rattle.rule.specs.Stability.{Rising}
 use Rattle.rule.proofs.Moves.{tabletsOf}
 use Rattle.lent.specs.Table.{relayPlaces, tabletPlaces, relayNumber, tabletNumber, tabletRelay, tabletWhole}
 use Rattle.nearest.specs.Nearest.{Nearest}
-use Rattle.survey.specs.Row.{slotRoom, Leads}
+use Rattle.row.specs.Row.{slotRoom, Leads}
 use Rattle.meaning.specs.Meaning.{tabletsIn, ringOf, lentOf}
 use Rattle.write.specs.Tables.{relayTable}
 use Rattle.write.specs.Wrote.{Climbs, Place}

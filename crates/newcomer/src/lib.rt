@@ -8,7 +8,7 @@ ghost use Prim.Native.Nat.{ℕ, _/_, _≤_};
 ghost use lib.ListN.{length};
 ghost use Rattle.ring.specs.Scheme.{positions};
 ghost use Rattle.lent.specs.Table.{mostRelays};
-ghost use Rattle.survey.specs.Row.{Row};
+ghost use Rattle.row.specs.Row.{Row};
 ghost use Rattle.newcomer.specs.Newcomer.{newcomerRefusal, Seeks, Prepared};
 
 fn newcomer_refusal(t: ring::TabletNumber, there: bool, places: usize, m: usize) -> rule::Refusal
@@ -48,7 +48,7 @@ fn seek(
 {
     let p = ring::tablet_at(scheme, t);
     let home = nearest::home(keys, n, p);
-    let stop = survey::led_to(next, home);
+    let stop = row::led_to(next, home);
     let i = order::slot_relay(keys, stop);
     Sought {
         home: home,

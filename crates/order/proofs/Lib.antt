@@ -1,5 +1,2 @@
-pub mod Reorder
 pub mod Sinking
 pub mod Keys
-pub mod Walk
-pub mod Arcs

@@ -18,8 +18,8 @@ use Rattle.lent.specs.Table.{relayNumber, tabletPlaces, tabletNumber, tabletRel
 use Rattle.lent.proofs.Loops.{eq-or-ne}
 use Rattle.meaning.proofs.Places.{places-ext}
 use Rattle.write.specs.Tables.{listed}
-use Rattle.write.specs.Places.{SetBeside}
-use Rattle.write.specs.Listing.{setMove}
+use Rattle.place.specs.Places.{SetBeside}
+use Rattle.place.specs.Listing.{setMove}
 use Rattle.write.proofs.Listed.{listed-none, listed-more, length-listed}
 use Rattle.plan.specs.Changes.{changes, newRelay, changesTo}
 use Rattle.plan.specs.Carried.{MovesOne, MovedOne, Carries, Carried}

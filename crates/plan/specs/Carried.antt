@@ -9,8 +9,8 @@ use Rattle.lent.specs.Table.{relayPlaces, relayNumber, tabletPlaces, tabletNumb
 use Rattle.meaning.specs.Meaning.{places}
 use Rattle.write.specs.Tables.{listed}
 use Rattle.write.specs.Wrote.{WroteTablets}
-use Rattle.write.specs.Places.{SetBeside}
-use Rattle.write.specs.Listing.{setMove}
+use Rattle.place.specs.Places.{SetBeside}
+use Rattle.place.specs.Listing.{setMove}
 use Rattle.plan.specs.Changes.{newRelay, changesTo}
 use Rattle.plan.specs.Plan.{Assigned}
 

@@ -132,8 +132,8 @@ fn move_one(
         return c;
     }
     let t = lent::tablet_number(tablets, j);
-    write::list_move(moves, c, t, old, new);
-    write::set_tablet_relay(tablets, j, new);
+    place::list_move(moves, c, t, old, new);
+    place::set_tablet_relay(tablets, j, new);
     c + 1
 }
 

@@ -15,9 +15,9 @@ use Rattle.lent.proofs.Loops.{stored}
 use Rattle.lent.proofs.Room.{room-more, room-size}
 use Rattle.lent.proofs.Placed.{for-tablet}
 use Rattle.order.specs.Keys.{slotRelay, Slot, Ordered}
-use Rattle.survey.specs.Row.{slotRoom, Ahead, both, turn, past, Leads, Row, Takes}
-use Rattle.survey.proofs.Leading.{leads-at}
-use Rattle.survey.proofs.Led.{led}
+use Rattle.row.specs.Row.{slotRoom, Ahead, both, turn, past, Leads, Row, Takes}
+use Rattle.row.proofs.Leading.{leads-at}
+use Rattle.row.proofs.Led.{led}
 use Rattle.meaning.proofs.Choice.{First}
 use Rattle.meaning.proofs.Run.{run-first}
 use Rattle.nearest.specs.Nearest.{Enters, itself, round, HomeAt}

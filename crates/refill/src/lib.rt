@@ -16,15 +16,15 @@ pub fn refill(
     requires { ⌜ Refills (now relays) n m (now keys) (now home) ⌝ }
     ensures { λ r. ⌜ ((p : Positions) (ts : List ℕ) → Homes p (now (relays .entry)) ts n m (now (keys .entry)) (now (home .entry)) → Refilled p (now (relays .entry)) ts n m r) ⌝ }
 {
-    let mut room = lent::placing::relay_limits(relays, n);
-    let mut next = survey::first_row(keys, &room, n);
+    let mut room = placing::relay_limits(relays, n);
+    let mut next = row::first_row(keys, &room, n);
     let mut relay = [0u8; 4096];
     let mut j: usize = 0;
     while j < m {
         let h = ring::from_u8(home[j]);
-        let k = survey::led_to(&next, h);
+        let k = row::led_to(&next, h);
         relay[j] = order::slot_relay(keys, k) as u8;
-        survey::take(keys, &mut room, &mut next, n, k);
+        row::take(keys, &mut room, &mut next, n, k);
         j += 1;
     }
     relay

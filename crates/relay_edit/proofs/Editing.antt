@@ -27,7 +27,8 @@ use Rattle.rule.proofs.Accepted.{bar-passed}
 use Rattle.lent.specs.Table.{mostRelays, relayPlaces, relayNumber, relayLimit}
 use Rattle.meaning.specs.Meaning.{relaysIn, ringOf, lentOf}
 use Rattle.write.specs.Wrote.{WroteRelays, Place, Climbs}
-use Rattle.write.specs.Places.{SetBeside, TookOut}
+use Rattle.place.specs.Places.{SetBeside}
+use Rattle.write.specs.Places.{TookOut}
 use Rattle.spot.specs.Spot.{missing}
 use Rattle.spot.proofs.There.{missing-there}
 use Rattle.homes.specs.declared.Around.{Around}

@@ -19,7 +19,8 @@ use Rattle.meaning.specs.Ascending.{Ascending}
 use Rattle.meaning.proofs.Words.{tablet-number-word}
 use Rattle.meaning.proofs.Right.{Rises}
 use Rattle.write.specs.Wrote.{WroteRelays, Place}
-use Rattle.write.specs.Places.{SetBeside, TookOut}
+use Rattle.place.specs.Places.{SetBeside}
+use Rattle.write.specs.Places.{TookOut}
 use Rattle.ring.proofs.Positions.{position-small}
 use Rattle.homes.specs.declared.Around.{Around}
 use Rattle.homes.specs.Shift.{skip}

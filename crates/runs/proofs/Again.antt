@@ -21,7 +21,7 @@ use Rattle.meaning.specs.Ascending.{Ascending}
 use Rattle.meaning.proofs.Places.{places-ext, places-table}
 use Rattle.meaning.proofs.Shapes.{rest-from}
 use Rattle.write.specs.Tables.{flat, filled, relayTable, tabletTable}
-use Rattle.write.proofs.Written.{firstOf, secondOf}
+use Rattle.place.proofs.Setting.{firstOf, secondOf}
 use Rattle.write.proofs.Filled.{length-flat}
 use Rattle.roster.proofs.Blocks.{flat-places}
 

@@ -19,8 +19,8 @@ use Rattle.rule.proofs.Turning.{distinct-order, distinct-rising}
 use Rattle.lent.specs.Table.{mostRelays, relayNumber, relayLimit}
 use Rattle.lent.specs.Placing.{relayPositions, keyFrom}
 use Rattle.order.specs.Keys.{slotRelay, Ordered}
-use Rattle.order.specs.Home.{keyAt, Home}
-use Rattle.survey.proofs.Led.{keyOf, nearer}
+use Rattle.home.specs.Home.{keyAt, Home}
+use Rattle.row.proofs.Led.{keyOf, nearer}
 use Rattle.meaning.specs.Meaning.{relaysIn}
 use Rattle.meaning.specs.Ascending.{Ascending}
 use Rattle.meaning.proofs.Places.{ascending-apart, table-places}

@@ -11,7 +11,7 @@ use native.Mathlib.Omega.{arith}
 use borrow.Author.Tests.{ltb-true, ltb-false, lt-ltb, le-ltb, le-leb, lt-leb, eqb-true, eqb-false, ne-eqb}
 use lib.Dec.{ltb, eqb}
 use Rattle.ring.proofs.Tests.{split}
-use Rattle.survey.specs.Row.{Ahead, both, turn, past}
+use Rattle.row.specs.Row.{Ahead, both, turn, past}
 use Rattle.slots.specs.Slots.{slotAt, stepsTo}
 
 module _ (n h : ℕ) (hh : h ≤ n) where

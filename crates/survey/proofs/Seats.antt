@@ -20,11 +20,11 @@ use Rattle.lent.proofs.Loops.{stored}
 use Rattle.lent.proofs.Room.{room-more, room-size, room-beyond}
 use Rattle.lent.proofs.Placed.{for-tablet, placed-none}
 use Rattle.order.specs.Keys.{slotRelay, Ordered}
-use Rattle.order.specs.Home.{keyAt, Home}
-use Rattle.survey.specs.Row.{slotRoom, Leads, Row, Takes}
+use Rattle.home.specs.Home.{keyAt, Home}
+use Rattle.row.specs.Row.{slotRoom, Leads, Row, Takes}
 use Rattle.survey.specs.Seats.{lastAfter, HomeByte, Seats, Surveyed}
-use Rattle.survey.proofs.Leading.{leads-at}
-use Rattle.survey.proofs.Led.{led, led-none}
+use Rattle.row.proofs.Leading.{leads-at}
+use Rattle.row.proofs.Led.{led, led-none}
 
 -- ---- no tablet yet
 

@@ -1,3 +1,1 @@
-pub mod Row
 pub mod Seats
-pub mod Tables

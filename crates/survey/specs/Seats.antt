@@ -8,8 +8,8 @@ use Rattle.ring.specs.Scheme.{Positions}
 use Rattle.lent.specs.Table.{mostRelays, mostTablets, tabletNumber}
 use Rattle.lent.specs.Placing.{relayPositions, roomAfter, relayFor}
 use Rattle.order.specs.Keys.{slotRelay, Ordered}
-use Rattle.order.specs.Home.{keyAt, Home}
-use Rattle.survey.specs.Row.{Row}
+use Rattle.home.specs.Home.{keyAt, Home}
+use Rattle.row.specs.Row.{Row}
 
 -- for each relay one more than the place of the greatest of the first j tablets that it holds; 0 where it holds none
 unfoldable pub lastAfter : Positions → List ℕ → List ℕ → ℕ → ℕ → List ℕ

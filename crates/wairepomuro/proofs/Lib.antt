@@ -1,3 +1,2 @@
 pub mod Serving
-pub mod Checking
 pub mod Binding

@@ -1,21 +1,17 @@
 -- What the C interface promises: the promise of the call, with the reply as four numbers and the refusal's number as the answer (document 01,
 -- "Replies"). Assumes nothing.
-use mathlib.Core.List.{List, [], _∷_}
+use mathlib.Core.List.{List}
 use mathlib.Core.Path.{_≡_}
 use Prim.Native.Nat.{ℕ}
 use Rattle.rule.specs.declared.Call.{Call}
-use Rattle.rule.specs.declared.Reply.{Reply}
 use Rattle.rule.specs.Refusals.{numberOf}
 use Rattle.rule.specs.Balance.{balance}
 use Rattle.tally.specs.Counted.{tallied}
+use Rattle.reply.specs.Numbers.{replyNumbers}
 use Rattle.look.specs.Promise.{after}
 use Rattle.sheet.specs.Promise as Sheet
 use Rattle.stretch.specs.Promise.{stretchOf}
 use Rattle.roster.specs.Reading as Roster
-
--- in the order of the paper
-unfoldable pub replyNumbers : Reply → List ℕ
-replyNumbers r = numberOf (r .refusal) ∷ r .relay .0 ∷ r .passed ∷ r .moves ∷ []
 
 -- the number answered and every lent number afterwards, for what was lent and the call
 pub record Serves (s : ℕ) (rs ts ms tally : List ℕ) (c : Call) (answer : ℕ) (reply rs′ ts′ ms′ tally′ : List ℕ) : Type 0 where

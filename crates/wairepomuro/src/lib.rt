@@ -6,32 +6,15 @@ ghost use Prim.Native.Nat.{ℕ};
 ghost use Rattle.rule.specs.declared.Call.the-variants.{Add, Remove, Set, Enrol, Withdraw, Find};
 ghost use Rattle.rule.specs.Refusals.{numberOf};
 ghost use Rattle.meaning.specs.Meaning.{tablesRefusal};
-ghost use Rattle.wairepomuro.specs.Promise.{replyNumbers, Serves, Shares, Lays, Spans, Reads};
+ghost use Rattle.wairepomuro.specs.Promise.{Serves, Shares, Lays, Spans, Reads};
 
 // Are these right tables? Answers with the number of the refusal that every call would give for them: 0, 1 or 2.
 #[no_mangle]
 pub extern "C" fn wairepomuro_check(scheme: u32, relays: &[u32], tablets: &[u32]) -> u32
     ensures { λ x. ⌜ x ≡ numberOf (tablesRefusal scheme (now (relays .entry)) (now (tablets .entry))) ⌝ }
 {
-    let known = ring::scheme_known(scheme);
-    if !known {
-        return 1;
-    }
-    let right = survey::right(scheme, relays, tablets);
-    if !right {
-        return 2;
-    }
-    0
-}
-
-// The reply as four numbers; answers with the refusal's.
-fn hand_out(reply: &mut [u32; 4], r: rule::Reply) -> u32
-    ensures { λ x. ⌜ (x ≡ numberOf (r .refusal)) × (now (reply .exit) ≡ replyNumbers r) ⌝ }
-{
-    let refusal = r.refusal;
-    let number = rule::number(refusal);
-    *reply = [number, r.relay.0, r.passed, r.moves];
-    number
+    let refusal = look::check(scheme, relays, tablets);
+    rule::number(refusal)
 }
 
 #[no_mangle]
@@ -48,9 +31,8 @@ pub extern "C" fn wairepomuro_add(
     ensures { λ x. ⌜ Serves scheme (now (relays .entry)) (now (tablets .entry)) (now (moves .entry)) (now (tally .entry)) (Add (record { 0 = relay }) limit) x (now (reply .exit)) (now (relays .exit)) (now (tablets .exit)) (now (moves .exit)) (now (tally .exit)) ⌝ }
 {
     let r = ring::RelayNumber(relay);
-    let made = relay_calls::add(scheme, relays, tablets, moves, r, limit);
-    tally::count(tally, rule::Call::Add(r, limit), made);
-    hand_out(reply, made)
+    let made = calls::add(scheme, relays, tablets, moves, tally, r, limit);
+    reply::hand_out(reply, made)
 }
 
 #[no_mangle]
@@ -66,9 +48,8 @@ pub extern "C" fn wairepomuro_remove(
     ensures { λ x. ⌜ Serves scheme (now (relays .entry)) (now (tablets .entry)) (now (moves .entry)) (now (tally .entry)) (Remove (record { 0 = relay })) x (now (reply .exit)) (now (relays .exit)) (now (tablets .exit)) (now (moves .exit)) (now (tally .exit)) ⌝ }
 {
     let r = ring::RelayNumber(relay);
-    let made = relay_calls::remove(scheme, relays, tablets, moves, r);
-    tally::count(tally, rule::Call::Remove(r), made);
-    hand_out(reply, made)
+    let made = calls::remove(scheme, relays, tablets, moves, tally, r);
+    reply::hand_out(reply, made)
 }
 
 #[no_mangle]
@@ -85,9 +66,8 @@ pub extern "C" fn wairepomuro_set(
     ensures { λ x. ⌜ Serves scheme (now (relays .entry)) (now (tablets .entry)) (now (moves .entry)) (now (tally .entry)) (Set (record { 0 = relay }) limit) x (now (reply .exit)) (now (relays .exit)) (now (tablets .exit)) (now (moves .exit)) (now (tally .exit)) ⌝ }
 {
     let r = ring::RelayNumber(relay);
-    let made = relay_calls::set(scheme, relays, tablets, moves, r, limit);
-    tally::count(tally, rule::Call::Set(r, limit), made);
-    hand_out(reply, made)
+    let made = calls::set(scheme, relays, tablets, moves, tally, r, limit);
+    reply::hand_out(reply, made)
 }
 
 #[no_mangle]
@@ -103,9 +83,8 @@ pub extern "C" fn wairepomuro_enrol(
     ensures { λ x. ⌜ Serves scheme (now (relays .entry)) (now (tablets .entry)) (now (moves .entry)) (now (tally .entry)) (Enrol (record { 0 = tablet })) x (now (reply .exit)) (now (relays .entry)) (now (tablets .exit)) (now (moves .exit)) (now (tally .exit)) ⌝ }
 {
     let t = ring::TabletNumber(tablet);
-    let made = enrol::enrol(scheme, relays, tablets, moves, t);
-    tally::count(tally, rule::Call::Enrol(t), made);
-    hand_out(reply, made)
+    let made = calls::enrol(scheme, relays, tablets, moves, tally, t);
+    reply::hand_out(reply, made)
 }
 
 #[no_mangle]
@@ -121,9 +100,8 @@ pub extern "C" fn wairepomuro_withdraw(
     ensures { λ x. ⌜ Serves scheme (now (relays .entry)) (now (tablets .entry)) (now (moves .entry)) (now (tally .entry)) (Withdraw (record { 0 = tablet })) x (now (reply .exit)) (now (relays .entry)) (now (tablets .exit)) (now (moves .exit)) (now (tally .exit)) ⌝ }
 {
     let t = ring::TabletNumber(tablet);
-    let made = withdraw::withdraw(scheme, relays, tablets, moves, t);
-    tally::count(tally, rule::Call::Withdraw(t), made);
-    hand_out(reply, made)
+    let made = calls::withdraw(scheme, relays, tablets, moves, tally, t);
+    reply::hand_out(reply, made)
 }
 
 #[no_mangle]
@@ -138,9 +116,8 @@ pub extern "C" fn wairepomuro_find(
     ensures { λ x. ⌜ ((moves : List ℕ) → Serves scheme (now (relays .entry)) (now (tablets .entry)) moves (now (tally .entry)) (Find (record { 0 = tablet })) x (now (reply .exit)) (now (relays .entry)) (now (tablets .entry)) moves (now (tally .exit))) ⌝ }
 {
     let t = ring::TabletNumber(tablet);
-    let made = find::find(scheme, relays, tablets, t);
-    tally::count(tally, rule::Call::Find(t), made);
-    hand_out(reply, made)
+    let made = calls::find(scheme, relays, tablets, tally, t);
+    reply::hand_out(reply, made)
 }
 
 // Every relay's limit with balance p/q.

@@ -1,5 +1,5 @@
 // Runs calls from standard input, a line to each, and answers a line as soon as it is read (document 01, "A drill to prove";
-// docs/DECISIONS.md, reading 9). What a byte of the input does is `desk`'s. Here bytes are read, and answers written.
+// docs/DECISIONS.md, reading 9). What a byte of the input does is `input`'s. Here bytes are read, and answers written.
 ghost use mathlib.Core.List.{[], _∷_};
 ghost use mathlib.Core.Path.{_≡_};
 ghost use Prim.Native.Nat.{_≤_, _<_, min};
@@ -18,10 +18,10 @@ const TABLETS: usize = 8192;
 
 const MOVES: usize = 12288;
 
-// A line is answered as its first 24 bytes are, so no more are kept (`answered-first` in `desk`).
+// A line is answered as its first 24 bytes are, so no more are kept (`answered-first` in `input`).
 const KEPT: usize = 24;
 
-// The longest answer: 44 bytes, and 35 for each of 4,096 moves (`takes-whole` in `desk`).
+// The longest answer: 44 bytes, and 35 for each of 4,096 moves (`takes-whole` in `input`).
 const ANSWER: usize = 143404;
 
 // What a read brought: how many bytes are to be taken, and whether no more will come.
@@ -77,7 +77,7 @@ fn bring(chunk: &mut [u8], kept: usize) -> Brought
 }
 
 // Writes the answer that is due. Where that fails nobody reads on, and the run is over.
-fn send(answer: &[u8], at: desk::Standing) -> desk::Standing
+fn send(answer: &[u8], at: stage::Standing) -> stage::Standing
     requires { ⌜ at .due ≤ length (now answer) ⌝ }
 {
     let due = at.due;
@@ -85,8 +85,8 @@ fn send(answer: &[u8], at: desk::Standing) -> desk::Standing
     if sent {
         at
     } else {
-        desk::Standing {
-            stage: desk::Stage::Over,
+        stage::Standing {
+            stage: stage::Stage::Over,
             kept: 0,
             due: 0,
         }
@@ -100,13 +100,13 @@ fn take_chunk(
     moves: &mut [u32],
     answer: &mut [u8],
     line: &mut [u8],
-    start: desk::Standing,
+    start: stage::Standing,
     chunk: &[u8],
-) -> desk::Standing {
+) -> stage::Standing {
     let mut at = start;
     let mut i = 0;
     while i < chunk.len() {
-        let next = desk::take_byte(relays, tablets, moves, answer, line, at, chunk[i]);
+        let next = input::take_byte(relays, tablets, moves, answer, line, at, chunk[i]);
         at = send(answer, next);
         i += 1;
     }
@@ -121,8 +121,8 @@ fn main() {
     let mut answer = [0u8; ANSWER];
     let mut line = [0u8; KEPT];
     let mut chunk = io::buffer();
-    let mut at = desk::Standing {
-        stage: desk::Stage::First,
+    let mut at = stage::Standing {
+        stage: stage::Stage::First,
         kept: 0,
         due: 0,
     };
@@ -143,7 +143,7 @@ fn main() {
         if brought.ended {
             return;
         }
-        if desk::over(at) {
+        if stage::over(at) {
             return;
         }
         turns -= 1;

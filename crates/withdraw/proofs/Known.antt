@@ -26,7 +26,7 @@ use Rattle.rule.proofs.Holing.{room-passed}
 use Rattle.lent.specs.Table.{relayNumber, relayLimit, tabletNumber, tabletRelay}
 use Rattle.order.specs.Keys.{slotRelay}
 use Rattle.survey.specs.declared.Survey.{Survey}
-use Rattle.survey.specs.Row.{slotRoom}
+use Rattle.row.specs.Row.{slotRoom}
 use Rattle.meaning.specs.Meaning.{relaysIn, tabletsIn}
 use Rattle.meaning.proofs.Places.{places-sits, held-places}
 use Rattle.meaning.proofs.Words.{tablet-relay-word}

@@ -25,7 +25,7 @@ use Rattle.meaning.specs.Meaning.{places, relaysIn, tabletsIn, restUnused}
 use Rattle.write.specs.Tables.{flat, filled}
 use Rattle.write.specs.Wrote.{WroteRelays, WroteTablets}
 use Rattle.write.specs.Places.{TookOut, Zeros}
-use Rattle.write.proofs.Written.{firstOf, secondOf}
+use Rattle.place.proofs.Setting.{firstOf, secondOf}
 
 -- ---- the test
 

@@ -1,4 +1,3 @@
 pub mod Tables
 pub mod Wrote
 pub mod Places
-pub mod Listing

@@ -1,4 +1,4 @@
--- What each place of a table gives once one place is written, one entry changed, or one taken out (document 01, "The lent tables"). Said once
+-- What each place of a table gives once an entry is taken out (document 01, "The lent tables"). Said once
 -- for both tables, over the number at a place and what stands beside it (a relay's limit, a tablet's relay). Assumes nothing.
 use mathlib.Core.List.{List}
 use mathlib.Core.Path.{_≡_}
@@ -6,21 +6,6 @@ use Prim.Native.Nat.{ℕ, _≤_, _<_}
 use lib.ListN.{length}
 use Rattle.rule.specs.Entry.{Entry}
 use Rattle.meaning.specs.Meaning.{places}
-
--- place k is x with v beside it, and every other place is as it was
-pub record SetPlace (numberAt besideAt : List ℕ → ℕ → ℕ) (before after : List ℕ) (k x v : ℕ) : Type 0 where
-  pub size : length after ≡ length before
-  pub number : numberAt after k ≡ x
-  pub beside : besideAt after k ≡ v
-  pub numbers : (i : ℕ) → (i ≡ k → ⊥) → numberAt after i ≡ numberAt before i
-  pub besides : (i : ℕ) → (i ≡ k → ⊥) → besideAt after i ≡ besideAt before i
-
--- v stands beside the number at place k; every number stays, and so does what stands beside the others
-pub record SetBeside (numberAt besideAt : List ℕ → ℕ → ℕ) (before after : List ℕ) (k v : ℕ) : Type 0 where
-  pub size : length after ≡ length before
-  pub beside : besideAt after k ≡ v
-  pub numbers : (i : ℕ) → numberAt after i ≡ numberAt before i
-  pub besides : (i : ℕ) → (i ≡ k → ⊥) → besideAt after i ≡ besideAt before i
 
 -- the first k places are these entries, place k is zeros, and every later place is as it was
 pub record TookOut (numberAt besideAt : List ℕ → ℕ → ℕ) (before after : List ℕ) (k : ℕ) (es : List Entry) : Type 0 where

@@ -2,7 +2,8 @@
 use native.Mathlib.Omega.{arith}
 use Rattle.text.proofs.Putting.{puts-nothing}
 use Rattle.desk.specs.Lines.{answered}
-use Rattle.desk.proofs.Answering.{says-text, answers-said}
+use Rattle.stage.proofs.Saying.{says-text}
+use Rattle.desk.proofs.Answering.{answers-said}
 use borrow.Author.Needs.{needs}
 use Rattle.desk.proofs.answer_line.Statement.{statement}
 use Rattle.desk.proofs.answer_line.Tie as tie

@@ -4,7 +4,7 @@ use native.Mathlib.Omega.{arith}
 use Prim.Native.Nat.{ℕ}
 use lib.ListN.{getD}
 use Rattle.order.specs.Keys.{slotRelay}
-use Rattle.survey.specs.Row.{slotRoom}
+use Rattle.row.specs.Row.{slotRoom}
 use Rattle.holes.proofs.Sweeping.{next-at-once}
 use borrow.Author.Needs.{needs}
 use Rattle.holes.proofs.next_mover.Statement.{statement}

@@ -14,8 +14,8 @@ use Rattle.lent.specs.Table.{mostTablets, tabletNumber}
 use Rattle.lent.specs.Shape.{all}
 use Rattle.lent.specs.Placing.{placedAt, placed}
 use Rattle.lent.proofs.Loops.{at-end, all-more, all-false}
-use Rattle.order.specs.Home.{keyAt, Begins}
-use Rattle.order.proofs.Walk.{begins-none, home-at}
+use Rattle.home.specs.Home.{keyAt, Begins}
+use Rattle.home.proofs.Walk.{begins-none, home-at}
 use Rattle.survey.specs.Seats.{Surveyed}
 use Rattle.survey.proofs.Seats.{surveyed-none, surveyed-more, surveyed-end, Seat, seat-below, seat-takes, seat-right}
 use Rattle.survey.proofs.look_over.Statement.{statement}

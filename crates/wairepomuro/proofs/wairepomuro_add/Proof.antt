@@ -1,14 +1,11 @@
--- `wairepomuro::wairepomuro_add` meets its contract: the promise of the call, counted and handed out. Assumes nothing.
+-- `wairepomuro::wairepomuro_add` meets its contract: the promise of the call, handed out. Assumes nothing.
 use borrow.Author.Needs.{needs}
-use Rattle.wairepomuro.proofs.Serving.{answers-serves}
+use Rattle.wairepomuro.proofs.Serving.{keeps-serves}
 use Rattle.wairepomuro.proofs.wairepomuro_add.Statement.{statement}
 use Rattle.wairepomuro.proofs.wairepomuro_add.Tie as tie
 
 add-requires : tie.Need-add-requires
 add-requires c κs = search needs
-
-count-requires : tie.Need-count-requires
-count-requires c κs = search needs
 
 hand-out-requires : tie.Need-hand-out-requires
 hand-out-requires c κs = search needs
@@ -26,14 +23,13 @@ same-length-4 : tie.Need-same-length-4
 same-length-4 c = search needs
 
 returns : tie.Need-returns
-returns c = answers-serves (c .before .before .before .before .before .before .before .before .before .before .before .before .add .ensures) (c .before .before .before .before .count .ensures) (c .hand-out .ensures .0) (c .hand-out .ensures .1)
+returns c = keeps-serves (c .before .before .before .before .before .before .before .before .before .before .add .ensures) (c .hand-out .ensures)
 
 pub wairepomuro-add-spec : {M : Type 1} → statement M
 wairepomuro-add-spec =
     tie.close
     (tie.spec
     add-requires
-    count-requires
     hand-out-requires
     same-length
     same-length-2

@@ -1,14 +1,11 @@
--- `wairepomuro::wairepomuro_enrol` meets its contract: the promise of the call, counted and handed out. Assumes nothing.
+-- `wairepomuro::wairepomuro_enrol` meets its contract: the promise of the call, handed out. Assumes nothing.
 use borrow.Author.Needs.{needs}
-use Rattle.wairepomuro.proofs.Serving.{answers-serves}
+use Rattle.wairepomuro.proofs.Serving.{keeps-serves}
 use Rattle.wairepomuro.proofs.wairepomuro_enrol.Statement.{statement}
 use Rattle.wairepomuro.proofs.wairepomuro_enrol.Tie as tie
 
 enrol-requires : tie.Need-enrol-requires
 enrol-requires c κs = search needs
-
-count-requires : tie.Need-count-requires
-count-requires c κs = search needs
 
 hand-out-requires : tie.Need-hand-out-requires
 hand-out-requires c κs = search needs
@@ -23,14 +20,13 @@ same-length-3 : tie.Need-same-length-3
 same-length-3 c = search needs
 
 returns : tie.Need-returns
-returns c = answers-serves (c .before .before .before .before .before .before .before .before .before .before .enrol .ensures) (c .before .before .before .before .count .ensures) (c .hand-out .ensures .0) (c .hand-out .ensures .1)
+returns c = keeps-serves (c .before .before .before .before .before .before .before .before .enrol .ensures) (c .hand-out .ensures)
 
 pub wairepomuro-enrol-spec : {M : Type 1} → statement M
 wairepomuro-enrol-spec =
     tie.close
     (tie.spec
     enrol-requires
-    count-requires
     hand-out-requires
     same-length
     same-length-2

@@ -1,14 +1,11 @@
--- `wairepomuro::wairepomuro_find` meets its contract: the promise of the call, counted and handed out. Assumes nothing.
+-- `wairepomuro::wairepomuro_find` meets its contract: the promise of the call, handed out. Assumes nothing.
 use borrow.Author.Needs.{needs}
-use Rattle.wairepomuro.proofs.Serving.{answers-serves}
+use Rattle.wairepomuro.proofs.Serving.{keeps-serves}
 use Rattle.wairepomuro.proofs.wairepomuro_find.Statement.{statement}
 use Rattle.wairepomuro.proofs.wairepomuro_find.Tie as tie
 
 find-requires : tie.Need-find-requires
 find-requires c κs = search needs
-
-count-requires : tie.Need-count-requires
-count-requires c κs = search needs
 
 hand-out-requires : tie.Need-hand-out-requires
 hand-out-requires c κs = search needs
@@ -17,8 +14,13 @@ same-length : tie.Need-same-length
 same-length c = search needs
 
 returns : tie.Need-returns
-returns c = λ moves. answers-serves (c .before .before .before .before .before .before .find .ensures moves) (c .before .before .before .before .count .ensures) (c .hand-out .ensures .0) (c .hand-out .ensures .1)
+returns c = λ moves. keeps-serves (c .before .before .before .before .find .ensures moves) (c .hand-out .ensures)
 
 pub wairepomuro-find-spec : {M : Type 1} → statement M
 wairepomuro-find-spec =
-    tie.close (tie.spec find-requires count-requires hand-out-requires same-length returns)
+    tie.close
+    (tie.spec
+    find-requires
+    hand-out-requires
+    same-length
+    returns)

@@ -1,14 +1,11 @@
--- `wairepomuro::wairepomuro_remove` meets its contract: the promise of the call, counted and handed out. Assumes nothing.
+-- `wairepomuro::wairepomuro_remove` meets its contract: the promise of the call, handed out. Assumes nothing.
 use borrow.Author.Needs.{needs}
-use Rattle.wairepomuro.proofs.Serving.{answers-serves}
+use Rattle.wairepomuro.proofs.Serving.{keeps-serves}
 use Rattle.wairepomuro.proofs.wairepomuro_remove.Statement.{statement}
 use Rattle.wairepomuro.proofs.wairepomuro_remove.Tie as tie
 
 remove-requires : tie.Need-remove-requires
 remove-requires c κs = search needs
-
-count-requires : tie.Need-count-requires
-count-requires c κs = search needs
 
 hand-out-requires : tie.Need-hand-out-requires
 hand-out-requires c κs = search needs
@@ -26,14 +23,13 @@ same-length-4 : tie.Need-same-length-4
 same-length-4 c = search needs
 
 returns : tie.Need-returns
-returns c = answers-serves (c .before .before .before .before .before .before .before .before .before .before .before .before .remove .ensures) (c .before .before .before .before .count .ensures) (c .hand-out .ensures .0) (c .hand-out .ensures .1)
+returns c = keeps-serves (c .before .before .before .before .before .before .before .before .before .before .remove .ensures) (c .hand-out .ensures)
 
 pub wairepomuro-remove-spec : {M : Type 1} → statement M
 wairepomuro-remove-spec =
     tie.close
     (tie.spec
     remove-requires
-    count-requires
     hand-out-requires
     same-length
     same-length-2

@@ -1,14 +1,11 @@
--- `wairepomuro::wairepomuro_set` meets its contract: the promise of the call, counted and handed out. Assumes nothing.
+-- `wairepomuro::wairepomuro_set` meets its contract: the promise of the call, handed out. Assumes nothing.
 use borrow.Author.Needs.{needs}
-use Rattle.wairepomuro.proofs.Serving.{answers-serves}
+use Rattle.wairepomuro.proofs.Serving.{keeps-serves}
 use Rattle.wairepomuro.proofs.wairepomuro_set.Statement.{statement}
 use Rattle.wairepomuro.proofs.wairepomuro_set.Tie as tie
 
 set-requires : tie.Need-set-requires
 set-requires c κs = search needs
-
-count-requires : tie.Need-count-requires
-count-requires c κs = search needs
 
 hand-out-requires : tie.Need-hand-out-requires
 hand-out-requires c κs = search needs
@@ -26,14 +23,13 @@ same-length-4 : tie.Need-same-length-4
 same-length-4 c = search needs
 
 returns : tie.Need-returns
-returns c = answers-serves (c .before .before .before .before .before .before .before .before .before .before .before .before .set .ensures) (c .before .before .before .before .count .ensures) (c .hand-out .ensures .0) (c .hand-out .ensures .1)
+returns c = keeps-serves (c .before .before .before .before .before .before .before .before .before .before .set .ensures) (c .hand-out .ensures)
 
 pub wairepomuro-set-spec : {M : Type 1} → statement M
 wairepomuro-set-spec =
     tie.close
     (tie.spec
     set-requires
-    count-requires
     hand-out-requires
     same-length
     same-length-2

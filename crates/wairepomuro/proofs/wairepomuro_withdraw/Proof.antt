@@ -1,14 +1,11 @@
--- `wairepomuro::wairepomuro_withdraw` meets its contract: the promise of the call, counted and handed out. Assumes nothing.
+-- `wairepomuro::wairepomuro_withdraw` meets its contract: the promise of the call, handed out. Assumes nothing.
 use borrow.Author.Needs.{needs}
-use Rattle.wairepomuro.proofs.Serving.{answers-serves}
+use Rattle.wairepomuro.proofs.Serving.{keeps-serves}
 use Rattle.wairepomuro.proofs.wairepomuro_withdraw.Statement.{statement}
 use Rattle.wairepomuro.proofs.wairepomuro_withdraw.Tie as tie
 
 withdraw-requires : tie.Need-withdraw-requires
 withdraw-requires c κs = search needs
-
-count-requires : tie.Need-count-requires
-count-requires c κs = search needs
 
 hand-out-requires : tie.Need-hand-out-requires
 hand-out-requires c κs = search needs
@@ -23,14 +20,13 @@ same-length-3 : tie.Need-same-length-3
 same-length-3 c = search needs
 
 returns : tie.Need-returns
-returns c = answers-serves (c .before .before .before .before .before .before .before .before .before .before .withdraw .ensures) (c .before .before .before .before .count .ensures) (c .hand-out .ensures .0) (c .hand-out .ensures .1)
+returns c = keeps-serves (c .before .before .before .before .before .before .before .before .withdraw .ensures) (c .hand-out .ensures)
 
 pub wairepomuro-withdraw-spec : {M : Type 1} → statement M
 wairepomuro-withdraw-spec =
     tie.close
     (tie.spec
     withdraw-requires
-    count-requires
     hand-out-requires
     same-length
     same-length-2

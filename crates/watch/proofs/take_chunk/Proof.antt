@@ -5,7 +5,7 @@ use Prim.Native.Nat.{_≤_, _<_, _-_}
 use native.Mathlib.Omega.{arith}
 use borrow.Author.Needs.{needs}
 use lib.ListN.{length}
-use Rattle.desk.proofs.Room.{takes-due}
+use Rattle.input.proofs.Room.{takes-due}
 use Rattle.watch.proofs.take_chunk.Statement.{statement}
 use Rattle.watch.proofs.take_chunk.Tie as tie
 

@@ -1,0 +1,28 @@
+-- `calls::withdraw` meets its contract: the call, and its count. Assumes nothing.
+use borrow.Author.Needs.{needs}
+use Rattle.calls.proofs.Keeping.{keeps}
+use Rattle.calls.proofs.withdraw.Statement.{statement}
+use Rattle.calls.proofs.withdraw.Tie as tie
+
+withdraw-requires : tie.Need-withdraw-requires
+withdraw-requires c κs = search needs
+
+count-requires : tie.Need-count-requires
+count-requires c κs = search needs
+
+same-length : tie.Need-same-length
+same-length c = search needs
+
+same-length-2 : tie.Need-same-length-2
+same-length-2 c = search needs
+
+same-length-3 : tie.Need-same-length-3
+same-length-3 c = search needs
+
+returns : tie.Need-returns
+returns c = keeps (c .before .before .before .before .before .before .before .before .withdraw .ensures) (c .before .before .count .ensures)
+
+pub withdraw-spec : {M : Type 1} → statement M
+withdraw-spec =
+    tie.close
+    (tie.spec withdraw-requires count-requires same-length same-length-2 same-length-3 returns)

@@ -1,0 +1,6 @@
+pub mod Taking
+pub mod Binding
+pub mod Keeping
+pub mod Room
+pub mod Input
+pub mod Sample

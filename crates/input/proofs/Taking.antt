@@ -1,0 +1,34 @@
+-- From what was answered, and from what was kept, to the promise of a byte.
+--   take-part                a part of a slice from its start on
+--   takes-end, takes-kept    a newline, and any other byte
+-- Assumes nothing.
+use mathlib.Core.List.{List, [], _∷_}
+use mathlib.Core.Path.{_≡_, refl, ap}
+use Prim.Native.Nat.{ℕ, _-_}
+use native.Mathlib.Omega.{arith}
+use borrow.Author.Tests.{eq-eqb, ne-eqb}
+use lib.ListN.{take}
+use Rattle.text.specs.Puts.{Puts}
+use Rattle.text.proofs.Putting.{puts-nothing}
+use Rattle.stage.specs.declared.Standing.{Standing}
+use Rattle.desk.specs.Lines.{answered, Answers}
+use Rattle.input.specs.Bytes.{keeping, taken, lineThen, Takes}
+use Rattle.desk.proofs.Answering.{answers-said}
+
+pub take-part : (k : ℕ) (l : List ℕ) → take (k - 0) l ≡ take k l
+take-part k l = let e : k - 0 ≡ k = omega arith in ap (λ n. take n l) e
+
+module _ {at : Standing} {rs ts ms line out : List ℕ} {b : ℕ} where
+  pub takes-end : {r : Standing} {rs′ ts′ ms′ out′ l : List ℕ} → b ≡ 10 → l ≡ take (at .kept) line
+      → Answers (answered (at .stage) rs ts ms l) out r rs′ ts′ ms′ out′ → Takes at rs ts ms line out b r rs′ ts′ ms′ line out′
+  unfolding taken lineThen
+  takes-end e d a = record { answers = rw (eq-eqb b 10 e, taken) (rw d at a); keeps = rw (eq-eqb b 10 e) }
+
+  pub takes-kept : {line′ : List ℕ} {n : ℕ} → (b ≡ 10 → ⊥) → Puts line (at .kept) (b ∷ []) line′ n
+      → Takes at rs ts ms line out b (record { stage = at .stage; kept = n; due = 0 }) rs ts ms line′ out
+  unfolding taken lineThen keeping
+  takes-kept e p =
+      record {
+        answers = rw (ne-eqb b 10 e, taken) (answers-said (record { stage = refl; kept = p .behind; puts = puts-nothing out (omega arith) }));
+        keeps = rw (ne-eqb b 10 e) (p .places);
+      }
