@@ -3,7 +3,9 @@
 ghost use mathlib.Core.List.{List};
 ghost use Prim.Native.Nat.{ℕ};
 ghost use Rattle.rule.specs.declared.Call.the-variants.{Add, Remove, Set, Enrol, Withdraw, Find};
-ghost use Rattle.calls.specs.Promise.{Keeps};
+ghost use Rattle.promise.specs.Promise.{Answers};
+ghost use Rattle.look.specs.Promise.{lists};
+ghost use Rattle.calls.specs.Promise.{countedAfter};
 
 pub fn add(
     scheme: u32,
@@ -14,8 +16,8 @@ pub fn add(
     r: ring::RelayNumber,
     limit: u32,
 ) -> rule::Reply
-    ensures { λ reply. ⌜ Keeps scheme (now (relays .entry)) (now (tablets .entry)) (now (moves .entry)) (now (tally .entry)) (Add r limit)
-        reply (now (relays .exit)) (now (tablets .exit)) (now (moves .exit)) (now (tally .exit)) ⌝ }
+    ensures { λ reply. ⌜ Answers (countedAfter scheme (now (relays .entry)) (now (tablets .entry)) (now (moves .entry)) (now (tally .entry)) (Add r limit))
+        reply (lists (now (relays .exit)) (now (tablets .exit)) (now (moves .exit)), now (tally .exit)) ⌝ }
 {
     let reply = relay_calls::add(scheme, relays, tablets, moves, r, limit);
     tally::count(tally, rule::Call::Add(r, limit), reply);
@@ -30,8 +32,8 @@ pub fn remove(
     tally: &mut [u32],
     r: ring::RelayNumber,
 ) -> rule::Reply
-    ensures { λ reply. ⌜ Keeps scheme (now (relays .entry)) (now (tablets .entry)) (now (moves .entry)) (now (tally .entry)) (Remove r)
-        reply (now (relays .exit)) (now (tablets .exit)) (now (moves .exit)) (now (tally .exit)) ⌝ }
+    ensures { λ reply. ⌜ Answers (countedAfter scheme (now (relays .entry)) (now (tablets .entry)) (now (moves .entry)) (now (tally .entry)) (Remove r))
+        reply (lists (now (relays .exit)) (now (tablets .exit)) (now (moves .exit)), now (tally .exit)) ⌝ }
 {
     let reply = relay_calls::remove(scheme, relays, tablets, moves, r);
     tally::count(tally, rule::Call::Remove(r), reply);
@@ -47,8 +49,8 @@ pub fn set(
     r: ring::RelayNumber,
     limit: u32,
 ) -> rule::Reply
-    ensures { λ reply. ⌜ Keeps scheme (now (relays .entry)) (now (tablets .entry)) (now (moves .entry)) (now (tally .entry)) (Set r limit)
-        reply (now (relays .exit)) (now (tablets .exit)) (now (moves .exit)) (now (tally .exit)) ⌝ }
+    ensures { λ reply. ⌜ Answers (countedAfter scheme (now (relays .entry)) (now (tablets .entry)) (now (moves .entry)) (now (tally .entry)) (Set r limit))
+        reply (lists (now (relays .exit)) (now (tablets .exit)) (now (moves .exit)), now (tally .exit)) ⌝ }
 {
     let reply = relay_calls::set(scheme, relays, tablets, moves, r, limit);
     tally::count(tally, rule::Call::Set(r, limit), reply);
@@ -63,8 +65,8 @@ pub fn enrol(
     tally: &mut [u32],
     t: ring::TabletNumber,
 ) -> rule::Reply
-    ensures { λ reply. ⌜ Keeps scheme (now (relays .entry)) (now (tablets .entry)) (now (moves .entry)) (now (tally .entry)) (Enrol t)
-        reply (now (relays .entry)) (now (tablets .exit)) (now (moves .exit)) (now (tally .exit)) ⌝ }
+    ensures { λ reply. ⌜ Answers (countedAfter scheme (now (relays .entry)) (now (tablets .entry)) (now (moves .entry)) (now (tally .entry)) (Enrol t))
+        reply (lists (now (relays .entry)) (now (tablets .exit)) (now (moves .exit)), now (tally .exit)) ⌝ }
 {
     let reply = enrol::enrol(scheme, relays, tablets, moves, t);
     tally::count(tally, rule::Call::Enrol(t), reply);
@@ -79,8 +81,8 @@ pub fn withdraw(
     tally: &mut [u32],
     t: ring::TabletNumber,
 ) -> rule::Reply
-    ensures { λ reply. ⌜ Keeps scheme (now (relays .entry)) (now (tablets .entry)) (now (moves .entry)) (now (tally .entry)) (Withdraw t)
-        reply (now (relays .entry)) (now (tablets .exit)) (now (moves .exit)) (now (tally .exit)) ⌝ }
+    ensures { λ reply. ⌜ Answers (countedAfter scheme (now (relays .entry)) (now (tablets .entry)) (now (moves .entry)) (now (tally .entry)) (Withdraw t))
+        reply (lists (now (relays .entry)) (now (tablets .exit)) (now (moves .exit)), now (tally .exit)) ⌝ }
 {
     let reply = withdraw::withdraw(scheme, relays, tablets, moves, t);
     tally::count(tally, rule::Call::Withdraw(t), reply);
@@ -95,8 +97,8 @@ pub fn find(
     tally: &mut [u32],
     t: ring::TabletNumber,
 ) -> rule::Reply
-    ensures { λ reply. ⌜ ((moves : List ℕ) → Keeps scheme (now (relays .entry)) (now (tablets .entry)) moves (now (tally .entry)) (Find t)
-        reply (now (relays .entry)) (now (tablets .entry)) moves (now (tally .exit))) ⌝ }
+    ensures { λ reply. ⌜ ((moves : List ℕ) → Answers (countedAfter scheme (now (relays .entry)) (now (tablets .entry)) moves (now (tally .entry)) (Find t))
+        reply (lists (now (relays .entry)) (now (tablets .entry)) moves, now (tally .exit))) ⌝ }
 {
     let reply = find::find(scheme, relays, tablets, t);
     tally::count(tally, rule::Call::Find(t), reply);
@@ -112,8 +114,8 @@ pub fn call(
     tally: &mut [u32],
     c: rule::Call,
 ) -> rule::Reply
-    ensures { λ reply. ⌜ Keeps scheme (now (relays .entry)) (now (tablets .entry)) (now (moves .entry)) (now (tally .entry)) c
-        reply (now (relays .exit)) (now (tablets .exit)) (now (moves .exit)) (now (tally .exit)) ⌝ }
+    ensures { λ reply. ⌜ Answers (countedAfter scheme (now (relays .entry)) (now (tablets .entry)) (now (moves .entry)) (now (tally .entry)) c)
+        reply (lists (now (relays .exit)) (now (tablets .exit)) (now (moves .exit)), now (tally .exit)) ⌝ }
 {
     match c {
         rule::Call::Add(r, limit) => add(scheme, relays, tablets, moves, tally, r, limit),

@@ -1,7 +1,8 @@
 // What a line of input does (document 01, "A drill to prove"; docs/DECISIONS.md, reading 9), with nothing read or written: what a line means is
 // `line`'s, what a call does `calls`'s, how an answer reads `answer`'s.
 ghost use Rattle.line.specs.Line.{meaningOf};
-ghost use Rattle.desk.specs.Lines.{Answers, under, answered};
+ghost use Rattle.look.specs.Promise.{lists};
+ghost use Rattle.desk.specs.Lines.{Shows, under, answered};
 
 fn next_line(
     relays: &mut [u32],
@@ -11,7 +12,8 @@ fn next_line(
     scheme: u32,
     line: &[u8],
 ) -> stage::Standing
-    ensures { λ r. ⌜ Answers (under scheme (now (relays .entry)) (now (tablets .entry)) (now (moves .entry)) (meaningOf (now (line .entry)))) (now (answer .entry)) r (now (relays .exit)) (now (tablets .exit)) (now (moves .exit)) (now (answer .exit)) ⌝ }
+    ensures { λ r. ⌜ Shows (under scheme (now (relays .entry)) (now (tablets .entry)) (now (moves .entry)) (meaningOf (now (line .entry)))) (now (answer .entry))
+        r (lists (now (relays .exit)) (now (tablets .exit)) (now (moves .exit))) (now (answer .exit)) ⌝ }
 {
     match line::meaning(line) {
         line::Line::Call(c) => {
@@ -38,7 +40,8 @@ pub fn answer_line(
     stage: stage::Stage,
     line: &[u8],
 ) -> stage::Standing
-    ensures { λ r. ⌜ Answers (answered stage (now (relays .entry)) (now (tablets .entry)) (now (moves .entry)) (now (line .entry))) (now (answer .entry)) r (now (relays .exit)) (now (tablets .exit)) (now (moves .exit)) (now (answer .exit)) ⌝ }
+    ensures { λ r. ⌜ Shows (answered stage (now (relays .entry)) (now (tablets .entry)) (now (moves .entry)) (now (line .entry))) (now (answer .entry))
+        r (lists (now (relays .exit)) (now (tablets .exit)) (now (moves .exit))) (now (answer .exit)) ⌝ }
 {
     match stage {
         stage::Stage::First => stage::first_line(answer, line),

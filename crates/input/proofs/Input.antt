@@ -19,7 +19,7 @@ use Rattle.stage.specs.declared.Stage.{Stage}
 use Rattle.stage.specs.declared.Stage.the-variants.{First, Under, Over}
 use Rattle.stage.specs.declared.Standing.{Standing}
 use Rattle.stage.specs.Stage.{says, other, first}
-use Rattle.desk.specs.Lines.{After, unchanged, called, under, answered}
+use Rattle.desk.specs.Lines.{Left, unchanged, called, under, answered}
 use Rattle.input.specs.Bytes.{keeping, taken, lineThen}
 use Rattle.input.specs.Input.{linesOf, printed, standing, sent}
 use Rattle.input.proofs.Keeping.{Kept, kept-none, kept-more, answered-first}
@@ -50,12 +50,12 @@ unfolding first other says
 first-kept l (names.Scheme s) = refl
 first-kept l names.Other = refl
 
-under-kept : (s : ℕ) (rs ts ms : List ℕ) (m : lines.Line) → under s rs ts ms m .said .kept ≡ 0
+under-kept : (s : ℕ) (rs ts ms : List ℕ) (m : lines.Line) → under s rs ts ms m .reply .kept ≡ 0
 unfolding under called unchanged other says
 under-kept s rs ts ms (line.Call c) = refl
 under-kept s rs ts ms line.Other = refl
 
-answered-kept : (next : Stage) (rs ts ms l : List ℕ) → answered next rs ts ms l .said .kept ≡ 0
+answered-kept : (next : Stage) (rs ts ms l : List ℕ) → answered next rs ts ms l .reply .kept ≡ 0
 unfolding answered unchanged says
 answered-kept First rs ts ms l = first-kept l (schemeOf l)
 answered-kept (Under s) rs ts ms l = under-kept s rs ts ms (meaningOf l)
@@ -64,8 +64,8 @@ answered-kept Over rs ts ms l = refl
 -- ---- one byte
 
 -- an answer, and what is sent for the bytes behind it
-onward : After → List ℕ → List ℕ → List ℕ
-onward a line bs = a .said .text ++ sent (standing a) (a .relays) (a .tablets) (a .moves) line bs
+onward : Left → List ℕ → List ℕ → List ℕ
+onward a line bs = a .reply .text ++ sent (standing a) (a .lent .relays) (a .lent .tablets) (a .lent .moves) line bs
 
 module _ (at : Standing) (rs ts ms line : List ℕ) (b : ℕ) (bs : List ℕ) where
   sent-end : eqb b 10 ≡ true → sent at rs ts ms line (b ∷ bs) ≡ onward (answered (at .stage) rs ts ms (take (at .kept) line)) line bs
@@ -89,8 +89,8 @@ unfolding answered taken sent printed begun
 last-line at rs ts ms line [] h k = rw (le-ltb 0 (at .kept) (omega (arith, k .count)))
 last-line at rs ts ms line (b ∷ l) h k =
     let e : ltb 0 (at .kept) ≡ true = lt-ltb 0 (at .kept) (omega (arith, k .count)) in
-    let t : List ℕ = answered (at .stage) rs ts ms (b ∷ l) .said .text in
-    rw (e, taken) (ap (λ (a : After). a .said .text) (line-answered h k (at .stage) rs ts ms) ∙ sym (append-nil t))
+    let t : List ℕ = answered (at .stage) rs ts ms (b ∷ l) .reply .text in
+    rw (e, taken) (ap (λ (a : Left). a .reply .text) (line-answered h k (at .stage) rs ts ms) ∙ sym (append-nil t))
 
 sent-begun : (bs : List ℕ) (at : Standing) (rs ts ms line l : List ℕ) → length line ≡ 24 → Kept line (at .kept) l
     → sent at rs ts ms line bs ≡ printed (at .stage) rs ts ms (begun l (linesOf bs))
@@ -98,11 +98,11 @@ unfolding linesOf printed standing onward begun
 sent-begun [] at rs ts ms line l h k = last-line at rs ts ms line l h k
 sent-begun (b ∷ bs) at rs ts ms line l h k = split (eqb b 10)
     (λ s.
-    let a : After = answered (at .stage) rs ts ms l in
-    let none : Kept line (a .said .kept) [] = rw (answered-kept (at .stage) rs ts ms l) (kept-none line) in
+    let a : Left = answered (at .stage) rs ts ms l in
+    let none : Kept line (a .reply .kept) [] = rw (answered-kept (at .stage) rs ts ms l) (kept-none line) in
     sent-end at rs ts ms line b bs s
-    ∙ ap (λ (x : After). onward x line bs) (line-answered h k (at .stage) rs ts ms)
-    ∙ ap (λ x. a .said .text ++ x) (sent-begun bs (standing a) (a .relays) (a .tablets) (a .moves) line [] h none)
+    ∙ ap (λ (x : Left). onward x line bs) (line-answered h k (at .stage) rs ts ms)
+    ∙ ap (λ x. a .reply .text ++ x) (sent-begun bs (standing a) (a .lent .relays) (a .lent .tablets) (a .lent .moves) line [] h none)
     ∙ rw s (ap (printed (at .stage) rs ts ms) (sym (begun-end l (linesOf bs)))))
     (λ s.
     let next : Standing = record { stage = at .stage; kept = min (at .kept + 1) (length line); due = 0 } in

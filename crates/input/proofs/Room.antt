@@ -10,7 +10,7 @@ use lib.Dec.{eqb}
 use lib.ListN.{length, take, drop, length-append, length-take}
 use lib.Seq.{sets-eq, take-append-seam}
 use Rattle.ring.proofs.Tests.{split}
-use Rattle.look.specs.Promise.{after}
+use Rattle.look.specs.Promise.{Lists, after}
 use Rattle.line.specs.declared.Line as lines
 use Rattle.line.specs.declared.Line.the-variants as line
 use Rattle.line.specs.declared.First as firsts
@@ -23,13 +23,13 @@ use Rattle.stage.specs.declared.Stage.{Stage}
 use Rattle.stage.specs.declared.Stage.the-variants.{First, Under, Over}
 use Rattle.stage.specs.declared.Standing.{Standing}
 use Rattle.stage.specs.Stage.{says, other, first}
-use Rattle.desk.specs.Lines.{After, unchanged, called, under, answered}
+use Rattle.desk.specs.Lines.{Left, unchanged, called, under, answered}
 use Rattle.input.specs.Bytes.{keeping, taken, Takes}
 
 -- ---- how long an answer can be
 
-record Roomy (a : After) : Type 0 where
-  pub room : length (a .said .text) ≤ 44 + 35 * (length (a .moves) / 3)
+record Roomy (a : Left) : Type 0 where
+  pub room : length (a .reply .text) ≤ 44 + 35 * (length (a .lent .moves) / 3)
 
 first-room : (rs ts ms l : List ℕ) (f : firsts.First) → length l ≤ 24 → Roomy (unchanged rs ts ms (first l f))
 unfolding first other says unchanged
@@ -62,11 +62,11 @@ puts-whole {out} {t} {out′} {n} p h =
     ∙ ap (take (length t)) (p .places ∙ sets-eq t out 0 (omega arith))
     ∙ take-append-seam t (drop (0 + length t) out)
 
-module _ {at : Standing} {rs ts ms line out : List ℕ} {b : ℕ} {r : Standing} {rs′ ts′ ms′ line′ out′ : List ℕ} where
-  pub takes-due : Takes at rs ts ms line out b r rs′ ts′ ms′ line′ out′ → r .due ≤ length out′
-  takes-due t = puts-within (t .answers .answer .puts)
+module _ {at : Standing} {rs ts ms line out : List ℕ} {b : ℕ} {r : Standing} {l : Lists ℕ} {line′ out′ : List ℕ} where
+  pub takes-due : Takes at rs ts ms line out b r l line′ out′ → r .due ≤ length out′
+  takes-due t = puts-within (t .shows .answer .puts)
 
-  pub takes-whole : Takes at rs ts ms line out b r rs′ ts′ ms′ line′ out′ → length line ≤ 24 → 44 + 35 * (length ms′ / 3) ≤ length out
-      → take (r .due) out′ ≡ taken at rs ts ms line b .said .text
+  pub takes-whole : Takes at rs ts ms line out b r l line′ out′ → length line ≤ 24 → 44 + 35 * (length (l .moves) / 3) ≤ length out
+      → take (r .due) out′ ≡ taken at rs ts ms line b .reply .text
   takes-whole t h g =
-      puts-whole (t .answers .answer .puts) (omega (arith, taken-room at rs ts ms line b h .room, ap (λ x. length x / 3) (t .answers .moves)))
+      puts-whole (t .shows .answer .puts) (omega (arith, taken-room at rs ts ms line b h .room, ap (λ (x : Lists ℕ). length (x .moves) / 3) (t .shows .lent)))

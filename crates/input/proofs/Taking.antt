@@ -8,27 +8,28 @@ use Prim.Native.Nat.{ℕ, _-_}
 use native.Mathlib.Omega.{arith}
 use borrow.Author.Tests.{eq-eqb, ne-eqb}
 use lib.ListN.{take}
+use Rattle.look.specs.Promise.{Lists, lists}
 use Rattle.text.specs.Puts.{Puts}
 use Rattle.text.proofs.Putting.{puts-nothing}
 use Rattle.stage.specs.declared.Standing.{Standing}
-use Rattle.desk.specs.Lines.{answered, Answers}
+use Rattle.desk.specs.Lines.{answered, Shows}
 use Rattle.input.specs.Bytes.{keeping, taken, lineThen, Takes}
-use Rattle.desk.proofs.Answering.{answers-said}
+use Rattle.desk.proofs.Answering.{shows-said}
 
 pub take-part : (k : ℕ) (l : List ℕ) → take (k - 0) l ≡ take k l
 take-part k l = let e : k - 0 ≡ k = omega arith in ap (λ n. take n l) e
 
 module _ {at : Standing} {rs ts ms line out : List ℕ} {b : ℕ} where
-  pub takes-end : {r : Standing} {rs′ ts′ ms′ out′ l : List ℕ} → b ≡ 10 → l ≡ take (at .kept) line
-      → Answers (answered (at .stage) rs ts ms l) out r rs′ ts′ ms′ out′ → Takes at rs ts ms line out b r rs′ ts′ ms′ line out′
+  pub takes-end : {r : Standing} {k : Lists ℕ} {out′ l : List ℕ} → b ≡ 10 → l ≡ take (at .kept) line
+      → Shows (answered (at .stage) rs ts ms l) out r k out′ → Takes at rs ts ms line out b r k line out′
   unfolding taken lineThen
-  takes-end e d a = record { answers = rw (eq-eqb b 10 e, taken) (rw d at a); keeps = rw (eq-eqb b 10 e) }
+  takes-end e d a = record { shows = rw (eq-eqb b 10 e, taken) (rw d at a); keeps = rw (eq-eqb b 10 e) }
 
   pub takes-kept : {line′ : List ℕ} {n : ℕ} → (b ≡ 10 → ⊥) → Puts line (at .kept) (b ∷ []) line′ n
-      → Takes at rs ts ms line out b (record { stage = at .stage; kept = n; due = 0 }) rs ts ms line′ out
+      → Takes at rs ts ms line out b (record { stage = at .stage; kept = n; due = 0 }) (lists rs ts ms) line′ out
   unfolding taken lineThen keeping
   takes-kept e p =
       record {
-        answers = rw (ne-eqb b 10 e, taken) (answers-said (record { stage = refl; kept = p .behind; puts = puts-nothing out (omega arith) }));
+        shows = rw (ne-eqb b 10 e, taken) (shows-said (record { stage = refl; kept = p .behind; puts = puts-nothing out (omega arith) }));
         keeps = rw (ne-eqb b 10 e) (p .places);
       }

@@ -6,16 +6,17 @@ use mathlib.Core.Path.{_≡_}
 use Prim.Native.Nat.{ℕ, _+_, min}
 use lib.Dec.{eqb}
 use lib.ListN.{length, take, set}
+use Rattle.look.specs.Promise.{Lists}
 use Rattle.stage.specs.declared.Standing.{Standing}
 use Rattle.stage.specs.Stage.{Said}
-use Rattle.desk.specs.Lines.{After, unchanged, answered, Answers}
+use Rattle.desk.specs.Lines.{Left, unchanged, answered, Shows}
 
 -- a byte of a line is kept, and nothing is said to it
 unfoldable pub keeping : Standing → List ℕ → Said
 keeping at line = record { stage = at .stage; kept = min (at .kept + 1) (length line); text = [] }
 
 -- a line ends: it is answered as the bytes that are kept of it
-unfoldable pub taken : Standing → List ℕ → List ℕ → List ℕ → List ℕ → ℕ → After
+unfoldable pub taken : Standing → List ℕ → List ℕ → List ℕ → List ℕ → ℕ → Left
 taken at rs ts ms line b =
     elim (eqb b 10) [ true ↦ answered (at .stage) rs ts ms (take (at .kept) line) | false ↦ unchanged rs ts ms (keeping at line) ]
 
@@ -24,6 +25,6 @@ unfoldable pub lineThen : Standing → List ℕ → ℕ → List ℕ
 lineThen at line b = cond (eqb b 10) line (set line (at .kept) b)
 
 -- the answer and the lent lists are those, and so is what is kept
-pub record Takes (at : Standing) (rs ts ms line out : List ℕ) (b : ℕ) (r : Standing) (rs′ ts′ ms′ line′ out′ : List ℕ) : Type 0 where
-  pub answers : Answers (taken at rs ts ms line b) out r rs′ ts′ ms′ out′
+pub record Takes (at : Standing) (rs ts ms line out : List ℕ) (b : ℕ) (r : Standing) (l : Lists ℕ) (line′ out′ : List ℕ) : Type 0 where
+  pub shows : Shows (taken at rs ts ms line b) out r l out′
   pub keeps : line′ ≡ lineThen at line b

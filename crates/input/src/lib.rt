@@ -2,6 +2,7 @@
 // does is `desk`'s.
 ghost use mathlib.Core.Path.{_≡_};
 ghost use lib.ListN.{take};
+ghost use Rattle.look.specs.Promise.{lists};
 ghost use Rattle.input.specs.Bytes.{Takes};
 
 // The bytes of a line that are kept.
@@ -24,7 +25,8 @@ pub fn take_byte(
     at: stage::Standing,
     b: u8,
 ) -> stage::Standing
-    ensures { λ r. ⌜ Takes at (now (relays .entry)) (now (tablets .entry)) (now (moves .entry)) (now (line .entry)) (now (answer .entry)) b r (now (relays .exit)) (now (tablets .exit)) (now (moves .exit)) (now (line .exit)) (now (answer .exit)) ⌝ }
+    ensures { λ r. ⌜ Takes at (now (relays .entry)) (now (tablets .entry)) (now (moves .entry)) (now (line .entry)) (now (answer .entry)) b
+        r (lists (now (relays .exit)) (now (tablets .exit)) (now (moves .exit))) (now (line .exit)) (now (answer .exit)) ⌝ }
 {
     let stage = at.stage;
     let kept = at.kept;

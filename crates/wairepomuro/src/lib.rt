@@ -5,8 +5,10 @@ ghost use mathlib.Core.Path.{_≡_};
 ghost use Prim.Native.Nat.{ℕ};
 ghost use Rattle.rule.specs.declared.Call.the-variants.{Add, Remove, Set, Enrol, Withdraw, Find};
 ghost use Rattle.rule.specs.Refusals.{numberOf};
+ghost use Rattle.promise.specs.Promise.{Answers};
 ghost use Rattle.meaning.specs.Meaning.{tablesRefusal};
-ghost use Rattle.wairepomuro.specs.Promise.{Serves, Shares, Lays, Spans, Reads};
+ghost use Rattle.look.specs.Promise.{lists};
+ghost use Rattle.wairepomuro.specs.Promise.{servedCall, servedSheet, servedReading, Shares, Spans};
 
 // Are these right tables? Answers with the number of the refusal that every call would give for them: 0, 1 or 2.
 #[no_mangle]
@@ -28,7 +30,8 @@ pub extern "C" fn wairepomuro_add(
     limit: u32,
     reply: &mut [u32; 4],
 ) -> u32
-    ensures { λ x. ⌜ Serves scheme (now (relays .entry)) (now (tablets .entry)) (now (moves .entry)) (now (tally .entry)) (Add (record { 0 = relay }) limit) x (now (reply .exit)) (now (relays .exit)) (now (tablets .exit)) (now (moves .exit)) (now (tally .exit)) ⌝ }
+    ensures { λ x. ⌜ Answers (servedCall scheme (now (relays .entry)) (now (tablets .entry)) (now (moves .entry)) (now (tally .entry)) (Add (record { 0 = relay }) limit))
+        x ((lists (now (relays .exit)) (now (tablets .exit)) (now (moves .exit)), now (tally .exit)), now (reply .exit)) ⌝ }
 {
     let r = ring::RelayNumber(relay);
     let made = calls::add(scheme, relays, tablets, moves, tally, r, limit);
@@ -45,7 +48,8 @@ pub extern "C" fn wairepomuro_remove(
     relay: u32,
     reply: &mut [u32; 4],
 ) -> u32
-    ensures { λ x. ⌜ Serves scheme (now (relays .entry)) (now (tablets .entry)) (now (moves .entry)) (now (tally .entry)) (Remove (record { 0 = relay })) x (now (reply .exit)) (now (relays .exit)) (now (tablets .exit)) (now (moves .exit)) (now (tally .exit)) ⌝ }
+    ensures { λ x. ⌜ Answers (servedCall scheme (now (relays .entry)) (now (tablets .entry)) (now (moves .entry)) (now (tally .entry)) (Remove (record { 0 = relay })))
+        x ((lists (now (relays .exit)) (now (tablets .exit)) (now (moves .exit)), now (tally .exit)), now (reply .exit)) ⌝ }
 {
     let r = ring::RelayNumber(relay);
     let made = calls::remove(scheme, relays, tablets, moves, tally, r);
@@ -63,7 +67,8 @@ pub extern "C" fn wairepomuro_set(
     limit: u32,
     reply: &mut [u32; 4],
 ) -> u32
-    ensures { λ x. ⌜ Serves scheme (now (relays .entry)) (now (tablets .entry)) (now (moves .entry)) (now (tally .entry)) (Set (record { 0 = relay }) limit) x (now (reply .exit)) (now (relays .exit)) (now (tablets .exit)) (now (moves .exit)) (now (tally .exit)) ⌝ }
+    ensures { λ x. ⌜ Answers (servedCall scheme (now (relays .entry)) (now (tablets .entry)) (now (moves .entry)) (now (tally .entry)) (Set (record { 0 = relay }) limit))
+        x ((lists (now (relays .exit)) (now (tablets .exit)) (now (moves .exit)), now (tally .exit)), now (reply .exit)) ⌝ }
 {
     let r = ring::RelayNumber(relay);
     let made = calls::set(scheme, relays, tablets, moves, tally, r, limit);
@@ -80,7 +85,8 @@ pub extern "C" fn wairepomuro_enrol(
     tablet: u32,
     reply: &mut [u32; 4],
 ) -> u32
-    ensures { λ x. ⌜ Serves scheme (now (relays .entry)) (now (tablets .entry)) (now (moves .entry)) (now (tally .entry)) (Enrol (record { 0 = tablet })) x (now (reply .exit)) (now (relays .entry)) (now (tablets .exit)) (now (moves .exit)) (now (tally .exit)) ⌝ }
+    ensures { λ x. ⌜ Answers (servedCall scheme (now (relays .entry)) (now (tablets .entry)) (now (moves .entry)) (now (tally .entry)) (Enrol (record { 0 = tablet })))
+        x ((lists (now (relays .entry)) (now (tablets .exit)) (now (moves .exit)), now (tally .exit)), now (reply .exit)) ⌝ }
 {
     let t = ring::TabletNumber(tablet);
     let made = calls::enrol(scheme, relays, tablets, moves, tally, t);
@@ -97,7 +103,8 @@ pub extern "C" fn wairepomuro_withdraw(
     tablet: u32,
     reply: &mut [u32; 4],
 ) -> u32
-    ensures { λ x. ⌜ Serves scheme (now (relays .entry)) (now (tablets .entry)) (now (moves .entry)) (now (tally .entry)) (Withdraw (record { 0 = tablet })) x (now (reply .exit)) (now (relays .entry)) (now (tablets .exit)) (now (moves .exit)) (now (tally .exit)) ⌝ }
+    ensures { λ x. ⌜ Answers (servedCall scheme (now (relays .entry)) (now (tablets .entry)) (now (moves .entry)) (now (tally .entry)) (Withdraw (record { 0 = tablet })))
+        x ((lists (now (relays .entry)) (now (tablets .exit)) (now (moves .exit)), now (tally .exit)), now (reply .exit)) ⌝ }
 {
     let t = ring::TabletNumber(tablet);
     let made = calls::withdraw(scheme, relays, tablets, moves, tally, t);
@@ -113,7 +120,8 @@ pub extern "C" fn wairepomuro_find(
     tablet: u32,
     reply: &mut [u32; 4],
 ) -> u32
-    ensures { λ x. ⌜ ((moves : List ℕ) → Serves scheme (now (relays .entry)) (now (tablets .entry)) moves (now (tally .entry)) (Find (record { 0 = tablet })) x (now (reply .exit)) (now (relays .entry)) (now (tablets .entry)) moves (now (tally .exit))) ⌝ }
+    ensures { λ x. ⌜ ((moves : List ℕ) → Answers (servedCall scheme (now (relays .entry)) (now (tablets .entry)) moves (now (tally .entry)) (Find (record { 0 = tablet })))
+        x ((lists (now (relays .entry)) (now (tablets .entry)) moves, now (tally .exit)), now (reply .exit))) ⌝ }
 {
     let t = ring::TabletNumber(tablet);
     let made = calls::find(scheme, relays, tablets, tally, t);
@@ -146,7 +154,7 @@ pub extern "C" fn wairepomuro_sheet(
     tablets: &[u32],
     sheet: &mut [u32],
 ) -> u32
-    ensures { λ x. ⌜ Lays scheme (now (relays .entry)) (now (tablets .entry)) (now (sheet .entry)) x (now (sheet .exit)) ⌝ }
+    ensures { λ x. ⌜ Answers (servedSheet scheme (now (relays .entry)) (now (tablets .entry)) (now (sheet .entry))) x (now (sheet .exit)) ⌝ }
 {
     let made = sheet::sheet(scheme, relays, tablets, sheet);
     let refusal = made.refusal;
@@ -179,7 +187,8 @@ pub extern "C" fn wairepomuro_read(
     tablets: &mut [u32],
     scheme: &mut u32,
 ) -> u32
-    ensures { λ x. ⌜ Reads (now (bytes .entry)) (now (relays .entry)) (now (tablets .entry)) x (now (scheme .exit)) (now (relays .exit)) (now (tablets .exit)) ⌝ }
+    ensures { λ x. ⌜ Answers (servedReading (now (bytes .entry)) (now (relays .entry)) (now (tablets .entry)))
+        x ((now (relays .exit), now (tablets .exit)), now (scheme .exit)) ⌝ }
 {
     let made = roster::read(bytes, relays, tablets);
     *scheme = made.scheme;

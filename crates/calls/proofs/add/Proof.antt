@@ -23,7 +23,7 @@ same-length-4 : tie.Need-same-length-4
 same-length-4 c = search needs
 
 returns : tie.Need-returns
-returns c = keeps (c .before .before .before .before .before .before .before .before .before .before .add .ensures) (c .before .before .count .ensures)
+returns c = keeps _ _ _ _ _ _ (c .before .before .before .before .before .before .before .before .before .before .add .ensures) (c .before .before .count .ensures)
 
 pub add-spec : {M : Type 1} → statement M
 add-spec =

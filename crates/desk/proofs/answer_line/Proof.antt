@@ -3,7 +3,7 @@ use native.Mathlib.Omega.{arith}
 use Rattle.text.proofs.Putting.{puts-nothing}
 use Rattle.desk.specs.Lines.{answered}
 use Rattle.stage.proofs.Saying.{says-text}
-use Rattle.desk.proofs.Answering.{answers-said}
+use Rattle.desk.proofs.Answering.{shows-said}
 use borrow.Author.Needs.{needs}
 use Rattle.desk.proofs.answer_line.Statement.{statement}
 use Rattle.desk.proofs.answer_line.Tie as tie
@@ -28,7 +28,7 @@ same-length c = search needs
 
 returns : tie.Need-returns
 unfolding answered
-returns c = rw (c .before .before .before .before .enum-told .given .1) (answers-said (c .before .before .first-line .ensures))
+returns c = rw (c .before .before .before .before .enum-told .given .1) (shows-said (c .before .before .first-line .ensures))
 
 same-length-2 : tie.Need-same-length-2
 same-length-2 c = search needs
@@ -50,7 +50,7 @@ returns-2 c =
 
 returns-3 : tie.Need-returns-3
 unfolding answered
-returns-3 c = rw (c .enum-told2 .given .1) (answers-said (says-text (puts-nothing _ (omega arith))))
+returns-3 c = rw (c .enum-told2 .given .1) (shows-said (says-text (puts-nothing _ (omega arith))))
 
 pub answer-line-spec : {M : Type 1} → statement M
 answer-line-spec =

@@ -1,7 +1,7 @@
 -- `desk::next_line` meets its contract, for a line that is a call and for one that is none. Assumes nothing.
 use mathlib.Core.Path.{sym, _∙_}
 use Rattle.desk.specs.Lines.{under}
-use Rattle.desk.proofs.Answering.{answers-said, answers-call}
+use Rattle.desk.proofs.Answering.{shows-said, shows-call}
 use borrow.Author.Needs.{needs}
 use Rattle.desk.proofs.next_line.Statement.{statement}
 use Rattle.desk.proofs.next_line.Tie as tie
@@ -44,7 +44,7 @@ unfolding under
 returns c =
     let call = c .before .before .before .before .before .before .before .before .before .before .before .before in
     let known = call .before .before .before .before .before .before in
-    rw (sym (known .before .before .meaning .ensures) ∙ known .c .given .1) (answers-call (call .call .ensures) (c .before .before .answer .ensures))
+    rw (sym (known .before .before .meaning .ensures) ∙ known .c .given .1) (shows-call _ _ _ _ _ _ (call .call .ensures) (c .before .before .answer .ensures))
 
 same-length-5 : tie.Need-same-length-5
 same-length-5 c = search needs
@@ -53,7 +53,7 @@ returns-2 : tie.Need-returns-2
 unfolding under
 returns-2 c =
     let told = c .before .before .before .before in
-    rw (sym (told .before .before .meaning .ensures) ∙ told .enum-told .given .1) (answers-said (c .before .before .other-line .ensures))
+    rw (sym (told .before .before .meaning .ensures) ∙ told .enum-told .given .1) (shows-said (c .before .before .other-line .ensures))
 
 pub next-line-spec : {M : Type 1} → statement M
 next-line-spec =

@@ -2,6 +2,7 @@
 use mathlib.Core.Path.{refl}
 use borrow.Author.Needs.{needs}
 use denote.Ref.{now}
+use Rattle.calls.proofs.Keeping.{kept-answers}
 use Rattle.station.proofs.Working.{scratch-length, works}
 use Rattle.station.proofs.work_on.Statement.{statement}
 use Rattle.station.proofs.work_on.Tie as tie
@@ -47,7 +48,7 @@ start c = c .before .before .before .before .before .before .before .before .bef
 
 returns : tie.Need-returns
 returns c =
-    works _ _ _ _ _ _ _ (c .before .before .before .before .before .before .before .call .ensures .answers)
+    works _ _ _ _ _ _ _ (kept-answers _ _ _ _ _ _ (c .before .before .before .before .before .before .before .call .ensures))
     (scratch-length (now (start c .args .numbers)) (c .before .before .before .before .before .before .before .before .before .before .before .before .useful .result) (start c .args .room) (start c .pre) (c .before .before .before .before .before .before .before .before .before .before .before .before .useful .ensures))
     refl
 

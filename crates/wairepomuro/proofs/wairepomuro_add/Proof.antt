@@ -1,6 +1,6 @@
 -- `wairepomuro::wairepomuro_add` meets its contract: the promise of the call, handed out. Assumes nothing.
 use borrow.Author.Needs.{needs}
-use Rattle.wairepomuro.proofs.Serving.{keeps-serves}
+use Rattle.wairepomuro.proofs.Serving.{serves-call}
 use Rattle.wairepomuro.proofs.wairepomuro_add.Statement.{statement}
 use Rattle.wairepomuro.proofs.wairepomuro_add.Tie as tie
 
@@ -23,7 +23,7 @@ same-length-4 : tie.Need-same-length-4
 same-length-4 c = search needs
 
 returns : tie.Need-returns
-returns c = keeps-serves (c .before .before .before .before .before .before .before .before .before .before .add .ensures) (c .hand-out .ensures)
+returns c = serves-call _ _ _ _ _ _ (c .before .before .before .before .before .before .before .before .before .before .add .ensures) (c .hand-out .ensures)
 
 pub wairepomuro-add-spec : {M : Type 1} → statement M
 wairepomuro-add-spec =

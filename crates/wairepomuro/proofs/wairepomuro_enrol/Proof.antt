@@ -1,6 +1,6 @@
 -- `wairepomuro::wairepomuro_enrol` meets its contract: the promise of the call, handed out. Assumes nothing.
 use borrow.Author.Needs.{needs}
-use Rattle.wairepomuro.proofs.Serving.{keeps-serves}
+use Rattle.wairepomuro.proofs.Serving.{serves-call}
 use Rattle.wairepomuro.proofs.wairepomuro_enrol.Statement.{statement}
 use Rattle.wairepomuro.proofs.wairepomuro_enrol.Tie as tie
 
@@ -20,7 +20,7 @@ same-length-3 : tie.Need-same-length-3
 same-length-3 c = search needs
 
 returns : tie.Need-returns
-returns c = keeps-serves (c .before .before .before .before .before .before .before .before .enrol .ensures) (c .hand-out .ensures)
+returns c = serves-call _ _ _ _ _ _ (c .before .before .before .before .before .before .before .before .enrol .ensures) (c .hand-out .ensures)
 
 pub wairepomuro-enrol-spec : {M : Type 1} → statement M
 wairepomuro-enrol-spec =

@@ -1,6 +1,6 @@
 -- `wairepomuro::wairepomuro_find` meets its contract: the promise of the call, handed out. Assumes nothing.
 use borrow.Author.Needs.{needs}
-use Rattle.wairepomuro.proofs.Serving.{keeps-serves}
+use Rattle.wairepomuro.proofs.Serving.{serves-call}
 use Rattle.wairepomuro.proofs.wairepomuro_find.Statement.{statement}
 use Rattle.wairepomuro.proofs.wairepomuro_find.Tie as tie
 
@@ -14,7 +14,7 @@ same-length : tie.Need-same-length
 same-length c = search needs
 
 returns : tie.Need-returns
-returns c = λ moves. keeps-serves (c .before .before .before .before .find .ensures moves) (c .hand-out .ensures)
+returns c = λ moves. serves-call _ _ _ _ _ _ (c .before .before .before .before .find .ensures moves) (c .hand-out .ensures)
 
 pub wairepomuro-find-spec : {M : Type 1} → statement M
 wairepomuro-find-spec =

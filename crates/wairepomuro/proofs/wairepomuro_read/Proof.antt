@@ -1,10 +1,6 @@
 -- `wairepomuro::wairepomuro_read` meets its contract: the promise of the reading, its refusal as a number. Assumes nothing.
-use mathlib.Core.List.{List}
-use mathlib.Core.Path.{ap, _∙_}
-use Prim.Native.Nat.{ℕ}
-use Rattle.roster.specs.declared.Reading.{Reading}
-use Rattle.rule.specs.Refusals.{numberOf}
 use borrow.Author.Needs.{needs}
+use Rattle.wairepomuro.proofs.Serving.{serves-reading}
 use Rattle.wairepomuro.proofs.wairepomuro_read.Statement.{statement}
 use Rattle.wairepomuro.proofs.wairepomuro_read.Tie as tie
 
@@ -21,13 +17,7 @@ same-length-2 : tie.Need-same-length-2
 same-length-2 c = search needs
 
 returns : tie.Need-returns
-returns c =
-    record {
-      answered = c .number .ensures ∙ ap (λ (r : Reading). numberOf (r .reply .refusal)) (c .before .before .before .before .before .before .read .ensures .reply);
-      scheme = ap (λ (r : Reading). r .scheme) (c .before .before .before .before .before .before .read .ensures .reply);
-      relays = ap (λ (l : List ℕ × List ℕ). l .0) (c .before .before .before .before .before .before .read .ensures .lent);
-      tablets = ap (λ (l : List ℕ × List ℕ). l .1) (c .before .before .before .before .before .before .read .ensures .lent);
-    }
+returns c = serves-reading _ _ _ (c .before .before .before .before .before .before .read .ensures) (c .number .ensures)
 
 pub wairepomuro-read-spec : {M : Type 1} → statement M
 wairepomuro-read-spec =

@@ -1,6 +1,6 @@
 -- `wairepomuro::wairepomuro_withdraw` meets its contract: the promise of the call, handed out. Assumes nothing.
 use borrow.Author.Needs.{needs}
-use Rattle.wairepomuro.proofs.Serving.{keeps-serves}
+use Rattle.wairepomuro.proofs.Serving.{serves-call}
 use Rattle.wairepomuro.proofs.wairepomuro_withdraw.Statement.{statement}
 use Rattle.wairepomuro.proofs.wairepomuro_withdraw.Tie as tie
 
@@ -20,7 +20,7 @@ same-length-3 : tie.Need-same-length-3
 same-length-3 c = search needs
 
 returns : tie.Need-returns
-returns c = keeps-serves (c .before .before .before .before .before .before .before .before .withdraw .ensures) (c .hand-out .ensures)
+returns c = serves-call _ _ _ _ _ _ (c .before .before .before .before .before .before .before .before .withdraw .ensures) (c .hand-out .ensures)
 
 pub wairepomuro-withdraw-spec : {M : Type 1} → statement M
 wairepomuro-withdraw-spec =
