@@ -14,11 +14,12 @@ use Rattle.promise.specs.Promise.{Answers}
 use Rattle.promise.proofs.Binding.{tally-answers}
 use Rattle.meaning.specs.Meaning.{ringOf}
 use Rattle.look.specs.Promise.{lists, left}
-use Rattle.station.specs.Promise.{lentWith, outcomeWith, recorded, tablesAfter, attended}
+use Rattle.records.specs.Outcome.{lentWith, outcomeWith, recorded, tablesAfter}
+use Rattle.records.specs.Working.{Works}
+use Rattle.records.proofs.Outcomes.{left-reply, left-relays, left-tablets, left-moves}
+use Rattle.station.specs.Promise.{attended}
 use Rattle.station.specs.Handing.{handed}
-use Rattle.station.specs.Working.{Works}
 use Rattle.station.proofs.Records.{handed-moves}
-use Rattle.station.proofs.Outcomes.{left-reply, left-relays, left-tablets, left-moves}
 
 module _ (s : ℕ) (rs ts : List ℕ) (list : List Move) (t : Tally) (c : Call) where
   abbrev o : Outcome

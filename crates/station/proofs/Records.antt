@@ -11,8 +11,9 @@ use lib.Seq.{set-at, getD-take, take-suc, take-length, drop-cons, length-take-le
 use Rattle.rule.specs.declared.Move.{Move}
 use Rattle.rule.specs.Calls.{move}
 use Rattle.write.specs.Tables.{flatMoves}
-use Rattle.station.specs.Promise.{recorded}
-use Rattle.station.specs.Handing.{moveAt, handed}
+use Rattle.records.specs.Outcome.{recorded}
+use Rattle.records.specs.Record.{moveAt}
+use Rattle.station.specs.Handing.{handed}
 
 pub length-handed : (list : List Move) (numbers : List ℕ) (n : ℕ) → length (handed list numbers n) ≡ length list
 unfolding handed

@@ -1,13 +1,9 @@
 -- Moves as three numbers each, handed out as records (document 01, "The lent tables", on a move list). Assumes nothing.
 use mathlib.Core.List.{List}
-use Prim.Native.Nat.{ℕ, zero, suc, _+_, _*_}
-use lib.ListN.{getD, set}
+use Prim.Native.Nat.{ℕ, zero, suc}
+use lib.ListN.{set}
 use Rattle.rule.specs.declared.Move.{Move}
-use Rattle.rule.specs.Calls.{move}
-
--- move i of the numbers
-abbrev pub moveAt : List ℕ → ℕ → Move
-moveAt numbers i = move (getD numbers (3 * i) 0) (getD numbers (3 * i + 1) 0) (getD numbers (3 * i + 2) 0)
+use Rattle.records.specs.Record.{moveAt}
 
 -- the list with the first n moves written in its first n places
 unfoldable pub handed : List Move → List ℕ → ℕ → List Move

@@ -1,36 +1,16 @@
 -- What a call promises to a station that lends a list of move records and a tally (document 01, "The lent tables", "Sheet, balance, tally"):
 -- the full reply and every lent place afterwards, for accepted and refused calls alike. Assumes nothing.
-use mathlib.Core.List.{List, [], _++_}
+use mathlib.Core.List.{List}
 use Prim.Native.Nat.{ℕ}
-use lib.ListN.{length, drop}
-use Rattle.ring.specs.Scheme.{known, positions}
+use lib.ListN.{length}
 use Rattle.rule.specs.declared.Call.{Call}
 use Rattle.rule.specs.declared.Move.{Move}
 use Rattle.rule.specs.declared.Reply.{Reply}
 use Rattle.rule.specs.declared.Tally.{Tally}
-use Rattle.rule.specs.Calls.{Lent, Outcome, outcome}
 use Rattle.rule.specs.Tally.{counted}
 use Rattle.promise.specs.Promise.{After, withTally}
-use Rattle.lent.specs.Table.{relayPlaces, tabletPlaces}
-use Rattle.meaning.specs.Meaning.{ringOf, fitTables}
 use Rattle.look.specs.Promise.{Lists, left}
-
--- the tables, and a move list with so many places
-unfoldable pub lentWith : ℕ → List ℕ → List ℕ → ℕ → Lent
-lentWith scheme rs ts room =
-    record { known = known scheme; fit = fitTables rs ts; relayPlaces = relayPlaces rs; tabletPlaces = tabletPlaces ts; movePlaces = room }
-
--- the outcome that document 01 gives for what is lent
-unfoldable pub outcomeWith : ℕ → List ℕ → List ℕ → ℕ → Call → Outcome
-outcomeWith scheme rs ts room c = outcome (positions scheme) (lentWith scheme rs ts room) (ringOf rs ts) c
-
--- the moves come first; records behind the last move stay as they were
-unfoldable pub recorded : List Move → List Move → List Move
-recorded ms list = ms ++ drop (length ms) list
-
--- the tables, whatever list of moves is lent
-unfoldable pub tablesAfter : List ℕ → List ℕ → Outcome → Lists Move
-tablesAfter rs ts o = left recorded rs ts [] o .lent
+use Rattle.records.specs.Outcome.{outcomeWith, recorded}
 
 -- the promise of a call, with its moves as records, and the tally with the call counted
 unfoldable pub attended : ℕ → List ℕ → List ℕ → List Move → Tally → Call → After Reply (Lists Move × Tally)

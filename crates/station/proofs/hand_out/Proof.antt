@@ -51,14 +51,15 @@ use denote.Triple.Table.{entered, cited}
 use denote.Triple.Walked.{says, needs, Stays, stay-slice, stay-none-ref, stay-none, walkOf, AllGo, goes-none, goes-slice, goes-none-ref, Walks, ends-at, walked, walk-meets}
 use denote.Exit.{yes}
 use Rattle.rule.specs.declared.Move.{Move}
-use Rattle.station.specs.Handing.{moveAt, handed}
+use Rattle.records.specs.Record.{moveAt}
+use Rattle.station.specs.Handing.{handed}
 use Rattle.station.proofs.Records.{length-handed}
 use Rattle.rule.proofs.Move as T
 use Rattle.rule.proofs.Move.Laws as T′
-use Rattle.station.proofs.move_at as move-at
-use Rattle.station.proofs.move_at.Symbol as move-at-def
-use Rattle.station.proofs.move_at.Symbol.{name as #station·move-at}
-use Rattle.station.proofs.move_at.Met as move-at-thm
+use Rattle.records.proofs.move_at as move-at
+use Rattle.records.proofs.move_at.Symbol as move-at-def
+use Rattle.records.proofs.move_at.Symbol.{name as #records·move-at}
+use Rattle.records.proofs.move_at.Met as move-at-thm
 use Rattle.station.proofs.hand_out.Key.{name as #station·hand-out}
 use Rattle.station.proofs.hand_out as f
 use Rattle.station.proofs.hand_out.Statement as stated
@@ -158,8 +159,8 @@ module _ {M : Type 1} (𝓤 : URA M) (H : Heap 𝓤) (A : Atoms 𝓤) (W : Given
   abbrev to-move : ℕ → MoveAt 𝓤 H A at-mem run .Ghost
   to-move i = (((κ′, tt), (q′, tt), tt, (ns, (i, tt)), (s′ ∷ [], (vint w64 i ∷ [], tt))), tt)
 
-  goes-move : (i : ℕ) → i < n → ent 𝓤 (sep 𝓤 (sep 𝓤 (A .lft κ′ q′) (sem 𝓤 H A ftrue)) (sem 𝓤 H A Own′)) (MoveAt 𝓤 H A at-mem run .pre (to-move i))
-  goes-move i less =
+  move-at-requires : (i : ℕ) → i < n → ent 𝓤 (sep 𝓤 (sep 𝓤 (A .lft κ′ q′) (sem 𝓤 H A ftrue)) (sem 𝓤 H A Own′)) (MoveAt 𝓤 H A at-mem run .pre (to-move i))
+  move-at-requires i less =
       qed W ((‵ (flft κ′ q′) ⊛ ‵ ftrue) ∷ ‵ Own′ ∷ []) ∵ says ! (numbers-there less enough) $ frame ! $
       nothing ! $ owned ! usize (Is usize) (uint-makes 𝓤 H A W w64) i _ (refl, lt-of-le-of-lt (le-of less) gn) $ fjoin ! $ move ! (1 ∷ 0 ∷ []) $ fjoin ! $ done !
     where
@@ -175,7 +176,7 @@ module _ {M : Type 1} (𝓤 : URA M) (H : Heap 𝓤) (A : Atoms 𝓤) (W : Given
   Nearer-wf : WellFounded Nearer
   Nearer-wf = InvImage·wf (λ (i : Upto). n - i .0) (Nat·lt-wfRel .wf)
 
-  module _ (𝓣 : Tables 𝓤 H) (known : Triple 𝓤 (𝓣 .C #station·move-at) (MoveAt 𝓤 H A at-mem run)) (l₀ l₁ l₂ l₃ l₄ l₅ l₆ l₇ l₈ : ℕ) where
+  module _ (𝓣 : Tables 𝓤 H) (known : Triple 𝓤 (𝓣 .C #records·move-at) (MoveAt 𝓤 H A at-mem run)) (l₀ l₁ l₂ l₃ l₄ l₅ l₆ l₇ l₈ : ℕ) where
     abbrev C : Calls 𝓤 H
     C = 𝓣 .C
 
@@ -205,7 +206,7 @@ module _ {M : Type 1} (𝓤 : URA M) (H : Heap 𝓤) (A : Atoms 𝓤) (W : Given
         (λ test. skips ! $ exec ! C Λ En (past-test mir-of.turn-1) (anyQ (Turned i)) $
         -- `move_at` is passed a copy of the shared slice
         move ! (5 ∷ []) $ use1 W (‵ Own′ ⊛ ‵ Own′) (shr-copy 𝓤 H A W (named 1) κ′ (Array u32 12288) .twice ns (s′ ∷ [])) $ split ! $
-        move ! (6 ∷ 0 ∷ []) $ use2 W (raw (MoveAt 𝓤 H A at-mem run .pre (to-move (i .0)))) (goes-move (i .0) (less test)) $
+        move ! (6 ∷ 0 ∷ []) $ use2 W (raw (MoveAt 𝓤 H A at-mem run .pre (to-move (i .0)))) (move-at-requires (i .0) (less test)) $
         calls-at ! (fmOf 𝓤 H (W .laws) 𝓣) (MoveAt 𝓤 H A at-mem run) known (to-move (i .0)) (and-then ! (load ! (from ! (stop !)) (look ! 18 refl)) (and-then ! (load ! (from ! (stop !)) (look ! 14 refl)) (no-more !))) (λ w.
         use1 W (later (some (λ (r : Move). ((‵ (flft κ′ q′) ⊛ ‵ ftrue) ⊛ ‵ (T.the-row .own r (w ∷ []))) ⊛ raw (ensured 𝓤 H A move-at.ended (move-at.clauses 𝓤 H A at-mem run) (κ′, tt) (ns, (i .0, tt)) tt r)))) (id⊢ 𝓤 _) $ await ! tt $ pick ! (λ r.
         split ! $ move ! (1 ∷ []) $ use1 W (raw (fact 𝓤 (r ≡ moveAt (ns .now) (i .0)))) (move-of 𝓤 H A at-mem run κ′ ns (i .0) r) $ heard ! (r ≡ moveAt (ns .now) (i .0)) (λ e. split ! $ move ! (1 ∷ []) $
@@ -250,7 +251,7 @@ module _ {M : Type 1} (𝓤 : URA M) (H : Heap 𝓤) (A : Atoms 𝓤) (W : Given
         next : Holds (ltb (i .0) n) → Upto
         next test = (i .0 + 1, add-one-le (less test))
 
-  walk : (𝓣 : Tables 𝓤 H) → Triple 𝓤 (𝓣 .C #station·move-at) (MoveAt 𝓤 H A at-mem run) → ent 𝓤 (onEntry 𝓤 H A f.signature (κ, (κ′, tt)) (q, (q′, tt)) a at) (WpFn 𝓤 H (𝓣 .C) (𝓣 .Λ) code.function (s ∷ s′ ∷ vint w64 n ∷ []) Post)
+  walk : (𝓣 : Tables 𝓤 H) → Triple 𝓤 (𝓣 .C #records·move-at) (MoveAt 𝓤 H A at-mem run) → ent 𝓤 (onEntry 𝓤 H A f.signature (κ, (κ′, tt)) (q, (q′, tt)) a at) (WpFn 𝓤 H (𝓣 .C) (𝓣 .Λ) code.function (s ∷ s′ ∷ vint w64 n ∷ []) Post)
   walk 𝓣 known =
       qed W ((‵ (flft κ q) ⊛ ‵ (flft κ′ q′) ⊛ ‵ ftrue) ∷ ‵ (owns (MutSlice (named 0) κ T.the-row ∷ ShrRef (named 1) κ′ (Array u32 12288) ∷ usize ∷ []) a at) ∷ []) ∵ enter ! (𝓣 .C) (𝓣 .Λ) code.function (s ∷ s′ ∷ vint w64 n ∷ []) _ $
       alloc1 ! (λ l₀. alloc1 ! (λ l₁. alloc1 ! (λ l₂. alloc1 ! (λ l₃. alloc1 ! (λ l₄. alloc1 ! (λ l₅. alloc1 ! (λ l₆. alloc1 ! (λ l₇. alloc1 ! (λ l₈. alloc0 ! $ params1 ! $
@@ -265,7 +266,7 @@ module _ {M : Type 1} (𝓤 : URA M) (H : Heap 𝓤) (A : Atoms 𝓤) (W : Given
       first ! $ blocks ! $ loops ! 𝓣 Nearer Nearer-wf (At 𝓣 known l₀ l₁ l₂ l₃ l₄ l₅ l₆ l₇ l₈) (turns 𝓣 known l₀ l₁ l₂ l₃ l₄ l₅ l₆ l₇ l₈) (0, zero-le))))))))))
 
 module _ {M : Type 1} (𝓤 : URA M) (H : Heap 𝓤) (A : Atoms 𝓤) (W : Given 𝓤 H A) (at-mem : Memory → SProp 𝓤) (run : Routine → Fun 𝓤) where
-  walks : (𝓣 : Tables 𝓤 H) → Triple 𝓤 (𝓣 .C #station·move-at) (MoveAt 𝓤 H A at-mem run) → Walks 𝓤 H A f.ended stayed (WpFn 𝓤 H (𝓣 .C) (𝓣 .Λ) code.function) (f.clauses 𝓤 H A at-mem run)
+  walks : (𝓣 : Tables 𝓤 H) → Triple 𝓤 (𝓣 .C #records·move-at) (MoveAt 𝓤 H A at-mem run) → Walks 𝓤 H A f.ended stayed (WpFn 𝓤 H (𝓣 .C) (𝓣 .Λ) code.function) (f.clauses 𝓤 H A at-mem run)
   walks 𝓣 known = walked 𝓤 H A f.ended stayed (f.clauses 𝓤 H A at-mem run) (WpFn 𝓤 H (𝓣 .C) (𝓣 .Λ) code.function)
       (λ κs. (slice-vals, (ptr-vals, (uint-vals w64, tt)))) (λ κs. (mut-slice-tells (named 0) (κs .0) T.the-row, (shr-tells (named 1) (κs .1 .0) (Array u32 12288), (uint-tells w64, tt))))
       (λ κs qs bounds a _ are. needs 𝓤 ((a .1 .1 .0 ≤ length (a .0 .now)) × (3 * a .1 .1 .0 ≤ 12288)) _ (λ asked.
@@ -274,7 +275,7 @@ module _ {M : Type 1} (𝓤 : URA M) (H : Heap 𝓤) (A : Atoms 𝓤) (W : Given
   goes : AllGo 𝓤 H A W 2 (f.signature .params) (f.ended .kept) stayed
   goes = (goes-slice 𝓤 H A W 2 0 tt (plain (λ _. T.the-row)), (goes-none-ref 𝓤 H A W 2 (1 ∷ []) tt (plain (λ _. Array u32 12288)) yes, (goes-none 𝓤 H A W 2 (λ _. usize) yes (λ κs x f. refl), tt)))
 
-meets : {M : Type 1} (𝓤 : URA M) (H : Heap 𝓤) (A : Atoms 𝓤) → Given 𝓤 H A → (at-mem : Memory → SProp 𝓤) (run : Routine → Fun 𝓤) (𝓣 : Tables 𝓤 H) → Triple 𝓤 (𝓣 .C #station·move-at) (MoveAt 𝓤 H A at-mem run)
+meets : {M : Type 1} (𝓤 : URA M) (H : Heap 𝓤) (A : Atoms 𝓤) → Given 𝓤 H A → (at-mem : Memory → SProp 𝓤) (run : Routine → Fun 𝓤) (𝓣 : Tables 𝓤 H) → Triple 𝓤 (𝓣 .C #records·move-at) (MoveAt 𝓤 H A at-mem run)
     → Meets 𝓤 H A f.signature (WpFn 𝓤 H (𝓣 .C) (𝓣 .Λ) code.function) (f.spec 𝓤 H A at-mem run)
 meets 𝓤 H A W at-mem run 𝓣 known =
     walk-meets 𝓤 H A f.ended stayed W (goes 𝓤 H A W at-mem run) (f.clauses 𝓤 H A at-mem run) (WpFn 𝓤 H (𝓣 .C) (𝓣 .Λ) code.function) (WpFn-mono 𝓤 H (W .laws) 𝓣 code.function) (walks 𝓤 H A W at-mem run 𝓣 known)
@@ -285,4 +286,4 @@ hand-out-spec 𝓤 H 𝓜 𝓖 𝓡 =
     entered 𝓤 H (tripleOf 𝓤 H (𝓖 .A) f.signature (f.spec 𝓤 H (𝓖 .A) (𝓜 .mem) (𝓡 .run)))
     (tables 𝓤 H 𝓜 𝓡 code.env .C) (tables 𝓤 H 𝓜 𝓡 code.env .Λ) #station·hand-out code.function (code.unfolded 𝓤 H 𝓜 𝓡)
     (meets 𝓤 H (𝓖 .A) (givenOf 𝓤 H 𝓜 𝓖) (𝓜 .mem) (𝓡 .run) (tablesOf 𝓤 H 𝓜 (tables 𝓤 H 𝓜 𝓡 code.env))
-    (cited 𝓤 H (MoveAt 𝓤 H (𝓖 .A) (𝓜 .mem) (𝓡 .run)) 𝓜 𝓡 code.env #station·move-at move-at-def.routine code.calls-station·move-at (move-at-thm.met 𝓤 H 𝓜 𝓖 𝓡)))
+    (cited 𝓤 H (MoveAt 𝓤 H (𝓖 .A) (𝓜 .mem) (𝓡 .run)) 𝓜 𝓡 code.env #records·move-at move-at-def.routine code.calls-records·move-at (move-at-thm.met 𝓤 H 𝓜 𝓖 𝓡)))

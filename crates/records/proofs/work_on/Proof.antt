@@ -1,11 +1,11 @@
--- `station::work_on` meets its contract: the call's promise for the part of the numbers that it is lent, by `works`. Assumes nothing.
+-- `records::work_on` meets its contract: the call's promise for the part of the numbers that it is lent, by `works`. Assumes nothing.
 use mathlib.Core.Path.{refl}
 use borrow.Author.Needs.{needs}
 use denote.Ref.{now}
 use Rattle.calls.proofs.Keeping.{kept-answers}
-use Rattle.station.proofs.Working.{scratch-length, works}
-use Rattle.station.proofs.work_on.Statement.{statement}
-use Rattle.station.proofs.work_on.Tie as tie
+use Rattle.records.proofs.Working.{scratch-length, works}
+use Rattle.records.proofs.work_on.Statement.{statement}
+use Rattle.records.proofs.work_on.Tie as tie
 
 useful-requires : tie.Need-useful-requires
 useful-requires c κs = search needs

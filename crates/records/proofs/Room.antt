@@ -28,7 +28,7 @@ use Rattle.lent.proofs.Shaped.{used-most}
 use Rattle.meaning.specs.Meaning.{ringOf, tablesRight, tablesBars}
 use Rattle.meaning.proofs.Fit.{whole-tablets, right-fit}
 use Rattle.meaning.proofs.Places.{length-places}
-use Rattle.station.specs.Promise.{lentWith, outcomeWith}
+use Rattle.records.specs.Outcome.{lentWith, outcomeWith}
 
 -- ---- so many moves at most
 

@@ -16,10 +16,10 @@ use Rattle.meaning.specs.Meaning.{ringOf, lentOf}
 use Rattle.write.specs.Tables.{flatMoves, listed}
 use Rattle.write.proofs.Listed.{length-moves, listed-none}
 use Rattle.look.specs.Promise.{outcomeOf, Lists, lists, left, after}
-use Rattle.station.specs.Promise.{lentWith, outcomeWith, recorded, tablesAfter}
-use Rattle.station.specs.Working.{Works}
-use Rattle.station.proofs.Outcomes.{outcome-count, outcome-fits, left-reply, left-relays, left-tablets, left-moves}
-use Rattle.station.proofs.Room.{outcome-room}
+use Rattle.records.specs.Outcome.{lentWith, outcomeWith, recorded, tablesAfter}
+use Rattle.records.specs.Working.{Works}
+use Rattle.records.proofs.Outcomes.{outcome-count, outcome-fits, left-reply, left-relays, left-tablets, left-moves}
+use Rattle.records.proofs.Room.{outcome-room}
 
 -- the moves stand first, whatever comes behind the list
 listed-first : (ms : List Move) (list rest : List ℕ) → 3 * length ms ≤ length list → take (3 * length ms) (listed ms list ++ rest) ≡ flatMoves ms

@@ -6,7 +6,7 @@ use lib.ListN.{take, length}
 use Rattle.rule.specs.declared.Call.{Call}
 use Rattle.rule.specs.declared.Reply.{Reply}
 use Rattle.write.specs.Tables.{flatMoves}
-use Rattle.station.specs.Promise.{outcomeWith, tablesAfter}
+use Rattle.records.specs.Outcome.{outcomeWith, tablesAfter}
 
 pub record Works (s : ℕ) (rs ts : List ℕ) (room : ℕ) (c : Call) (r : Reply) (numbers rs′ ts′ : List ℕ) : Type 0 where
   pub reply : r ≡ outcomeWith s rs ts room c .reply
