@@ -1,15 +1,15 @@
 -- The drill of document 01 on lent numbers, computed by the definitions that the calls' contracts cite: from empty tables the three relays are
--- added, and then each case finds what the one before it left. The replies, and the moves that stand in the lent list, are the paper's.
+-- added, and then each case finds what the one before it left. The replies, and the moves that stand in the lent list, are the paper's, and the
+-- tally has counted them.
 --   drill-lent
 -- Assumes nothing.
-use mathlib.Core.List.{List, [], _∷_, _++_, map}
+use mathlib.Core.List.{List, [], _∷_, map}
 use mathlib.Core.Path.{_≡_, refl}
 use Prim.Native.Nat.{ℕ, zero, suc}
-use lib.ListN.{replicate, drop}
+use lib.ListN.{drop}
 use Rattle.ring.specs.Scheme as Scheme
 use Rattle.ring.specs.Clockwise as Clockwise
 use Rattle.rule.specs.declared.Call.{Call}
-use Rattle.rule.specs.declared.Call.the-variants.{Add}
 use Rattle.rule.specs.declared.Reply.{Reply}
 use Rattle.rule.specs.declared.Move.{Move}
 use Rattle.rule.specs.Calls.{move}
@@ -28,7 +28,8 @@ use Rattle.meaning.specs.Meaning as Meaning
 use Rattle.write.specs.Tables as Tables
 use Rattle.tally.specs.Counted as Counted
 use Rattle.look.specs.Promise as Promise
-use Rattle.runs.specs.Runs.{Memory, called}
+use Rattle.runs.specs.Runs.{Memory, called, calledAll}
+use Rattle.runs.specs.Drilled as Drilled
 
 -- the first moves of a lent list
 unfoldable pub standing : ℕ → List ℕ → List Move
@@ -45,13 +46,7 @@ answered s m (c ∷ cs) =
     let a : After Reply (Promise.Lists ℕ) = Promise.after s (m .relays) (m .tablets) (m .moves) c in
     record { reply = a .reply; moves = standing (a .reply .moves) (a .lent .moves) } ∷ answered s (called s m c) cs
 
--- empty tables of eight places, eight moves, and a zero tally
-abbrev blank : Memory
-blank = record { relays = replicate 16 0; tablets = replicate 16 0; moves = replicate 24 0; tally = replicate 4 0 }
-
-abbrev relays : List Call
-relays = Add (record { 0 = 10 }) 1 ∷ Add (record { 0 = 20 }) 2 ∷ Add (record { 0 = 30 }) 1 ∷ []
-
-pub drill-lent : drop 3 (answered 0 blank (relays ++ map (λ (c : Drill.Case). c .call) Drill.drill)) ≡ map (λ (c : Drill.Case). c .answer) Drill.drill
-unfolding answered standing called Promise.after Promise.left Promise.written Promised.settled Promise.outcomeOf Meaning.lentOf Meaning.ringOf Meaning.places Meaning.fitTables Meaning.restUnused Shape.relaysUsed Shape.tabletsUsed Shape.used Shape.relayFits Shape.tabletFits Shape.all Shape.unused Table.relayPlaces Table.relayNumber Table.relayLimit Table.relayWhole Table.tabletPlaces Table.tabletNumber Table.tabletRelay Table.tabletWhole Tables.flat Tables.filled Tables.relayTable Tables.tabletTable Tables.flatMoves Tables.listed Counted.tallyOf Counted.counts Counted.tallied Tally.more Tally.counted Scheme.known Scheme.positions Scheme.position Clockwise.clockwise Clockwise.distance Clockwise.sooner Entry.numbers Entry.has Entry.besideOf Entry.insert Entry.delete Entry.put Entry.total Entry.count Entry.load Entry.first Entry.upTo Order.queued Order.order Rule.full Rule.hasRoom Rule.seat Rule.seatAll Rule.placement Rule.rising Rule.limitsFit Rule.same Rule.isJust Rule.right Refusals.isDone Refusals.firstBar Calls.edited Calls.orNobody Calls.after Calls.moved Calls.moves Calls.aheadOf Calls.fullAhead Calls.passed Calls.relayOf Calls.wrongNumbers Calls.refusal Calls.accepted Calls.declined Calls.outcome Drill.replies Drill.drill
-drill-lent = refl
+pub drill-lent : (drop 3 (answered 0 Drilled.blank Drilled.drillCalls) ≡ map (λ (c : Drill.Case). c .answer) Drill.drill)
+    × (calledAll 0 Drilled.blank Drilled.drillCalls .tally ≡ Drilled.drillTally)
+unfolding answered standing called calledAll Drilled.blank Drilled.drillCalls Drilled.drillTally Promise.after Promise.left Promise.written Promised.settled Promise.outcomeOf Meaning.lentOf Meaning.ringOf Meaning.places Meaning.fitTables Meaning.restUnused Shape.relaysUsed Shape.tabletsUsed Shape.used Shape.relayFits Shape.tabletFits Shape.all Shape.unused Table.relayPlaces Table.relayNumber Table.relayLimit Table.relayWhole Table.tabletPlaces Table.tabletNumber Table.tabletRelay Table.tabletWhole Tables.flat Tables.filled Tables.relayTable Tables.tabletTable Tables.flatMoves Tables.listed Counted.tallyOf Counted.counts Counted.tallied Tally.more Tally.counted Scheme.known Scheme.positions Scheme.position Clockwise.clockwise Clockwise.distance Clockwise.sooner Entry.numbers Entry.has Entry.besideOf Entry.insert Entry.delete Entry.put Entry.total Entry.count Entry.load Entry.first Entry.upTo Order.queued Order.order Rule.full Rule.hasRoom Rule.seat Rule.seatAll Rule.placement Rule.rising Rule.limitsFit Rule.same Rule.isJust Rule.right Refusals.isDone Refusals.firstBar Calls.edited Calls.orNobody Calls.after Calls.moved Calls.moves Calls.aheadOf Calls.fullAhead Calls.passed Calls.relayOf Calls.wrongNumbers Calls.refusal Calls.accepted Calls.declined Calls.outcome Drill.replies Drill.drill
+drill-lent = (refl, refl)
