@@ -5,6 +5,10 @@ use borrow.Author.Needs.{needs}
 use Rattle.enrol.proofs.seat_one.Statement.{statement}
 use Rattle.enrol.proofs.seat_one.Tie as tie
 
+-- the move is listed, from the end
+abbrev listed : tie.After-slice-known4 → tie.After-list-move
+listed c = c .before .before .before .before .before .before
+
 tablet-number-requires : tie.Need-tablet-number-requires
 tablet-number-requires c κs = search needs
 
@@ -27,7 +31,10 @@ same-length-2 : tie.Need-same-length-2
 same-length-2 c = search needs
 
 returns : tie.Need-returns
-returns c = sat-down _ _ _ _ _ _ _ _ _ _ _ (c .before .before .seat-tablet .ensures .0) (c .before .before .seat-tablet .ensures .1) (c .before .before .before .before .before .before .before .before .before .before .tablet-number .ensures) (c .before .before .before .before .before .before .before .before .before .relay-number .ensures) (c .before .before .before .before .before .before .before .before .relay-number2 .ensures) (c .before .before .before .before .before .before .list-move .ensures)
+returns c =
+    let read = listed c .before .before in
+    sat-down _ _ _ _ _ _ _ _ _ _ _ (c .before .before .seat-tablet .ensures .0) (c .before .before .seat-tablet .ensures .1)
+    (read .before .before .tablet-number .ensures) (read .before .relay-number .ensures) (read .relay-number2 .ensures) (listed c .list-move .ensures)
 
 pub seat-one-spec : {M : Type 1} → statement M
 seat-one-spec =

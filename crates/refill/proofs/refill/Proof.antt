@@ -17,23 +17,34 @@ Inv-loop relays keys home n m room₀ next₀ relay₀ j₀ room next relay j = 
 abbrev μ-loop : tie.MeasureT-loop
 μ-loop relays keys home n m room₀ next₀ relay₀ j₀ room next relay j = m - j
 
+-- the call, from a turn of the loop; and the turn, from where the row has led on
+abbrev start : tie.At-loop Inv-loop μ-loop → tie.Start Inv-loop μ-loop
+start c = c .before .before .before .before .before
+
+abbrev head : tie.After-led-to Inv-loop μ-loop → tie.In-loop Inv-loop μ-loop
+head c = c .before .before .before .before
+
 -- where tablet j's walk goes from, and where the row leads from there
-turn : (c : tie.After-led-to Inv-loop μ-loop) (p : Positions) (ts : List ℕ) → Homes p (now (c .before .before .before .before .before .before .before .before .before .before .args .relays)) ts (c .before .before .before .before .before .before .before .before .before .before .args .n) (c .before .before .before .before .before .before .before .before .before .before .args .m) (now (c .before .before .before .before .before .before .before .before .before .before .args .keys)) (now (c .before .before .before .before .before .before .before .before .before .before .args .home))
-    → Turn p (now (c .before .before .before .before .before .before .before .before .before .before .args .relays)) ts (c .before .before .before .before .before .before .before .before .before .before .args .n) (c .before .before .before .before .before .before .before .before .before .before .args .m) (c .before .before .before .before .before .loop .j) (now (c .before .before .before .before .before .before .before .before .before .before .args .keys)) (now (c .before .before .before .before .before .before .before .before .before .before .args .home)) (c .before .before .before .before .before .loop .room) (c .before .before .before .before .before .loop .next) (c .before .before .before .before .before .loop .relay) (c .before .before .from-u8 .result) (c .led-to .result)
+turn : (c : tie.After-led-to Inv-loop μ-loop) (p : Positions) (ts : List ℕ) → let a = start (head c .before) .args in let l = head c .before .loop in
+    Homes p (now (a .relays)) ts (a .n) (a .m) (now (a .keys)) (now (a .home))
+    → Turn p (now (a .relays)) ts (a .n) (a .m) (l .j) (now (a .keys)) (now (a .home)) (l .room) (l .next) (l .relay)
+    (c .before .before .from-u8 .result) (c .led-to .result)
 turn c p ts o =
     record {
-      asked = c .before .before .before .before .before .before .before .before .before .before .pre;
-      more = c .before .before .before .before .loop-test .taken;
+      asked = start (head c .before) .pre;
+      more = head c .loop-test .taken;
       homes = o;
-      filling = c .before .before .before .before .before .loop .inv .1 .by p ts o;
+      filling = head c .before .loop .inv .1 .by p ts o;
       from = c .before .before .from-u8 .ensures .0;
       byte = c .before .before .from-u8 .ensures .1;
       led-to = c .led-to .ensures .0;
     }
 
 -- for the positions that were asked for
-turn-asked : (c : tie.After-led-to Inv-loop μ-loop) → Turn (c .before .before .before .before .before .before .before .before .before .before .pre .positions) (now (c .before .before .before .before .before .before .before .before .before .before .args .relays)) (c .before .before .before .before .before .before .before .before .before .before .pre .tablets) (c .before .before .before .before .before .before .before .before .before .before .args .n) (c .before .before .before .before .before .before .before .before .before .before .args .m) (c .before .before .before .before .before .loop .j) (now (c .before .before .before .before .before .before .before .before .before .before .args .keys)) (now (c .before .before .before .before .before .before .before .before .before .before .args .home)) (c .before .before .before .before .before .loop .room) (c .before .before .before .before .before .loop .next) (c .before .before .before .before .before .loop .relay) (c .before .before .from-u8 .result) (c .led-to .result)
-turn-asked c = turn c (c .before .before .before .before .before .before .before .before .before .before .pre .positions) (c .before .before .before .before .before .before .before .before .before .before .pre .tablets) (c .before .before .before .before .before .before .before .before .before .before .pre .homes)
+turn-asked : (c : tie.After-led-to Inv-loop μ-loop) → let s = start (head c .before) in let a = s .args in let l = head c .before .loop in
+    Turn (s .pre .positions) (now (a .relays)) (s .pre .tablets) (a .n) (a .m) (l .j) (now (a .keys)) (now (a .home)) (l .room) (l .next) (l .relay)
+    (c .before .before .from-u8 .result) (c .led-to .result)
+turn-asked c = let asked = start (head c .before) .pre in turn c (asked .positions) (asked .tablets) (asked .homes)
 
 relay-limits-requires : tie.Need-relay-limits-requires Inv-loop μ-loop
 relay-limits-requires c κs = c .before .pre .relays
@@ -45,7 +56,7 @@ loop-holds : tie.Need-loop-holds Inv-loop μ-loop
 loop-holds c = (omega arith, record { by = λ p ts o. filling-none o (c .before .before .relay-limits .ensures) (c .first-row .ensures) refl })
 
 element-copy-out-from-u8 : tie.Need-element-copy-out-from-u8 Inv-loop μ-loop
-element-copy-out-from-u8 c = omega (arith, c .loop-test .taken, c .before .before .before .before .before .before .pre .few)
+element-copy-out-from-u8 c = omega (arith, c .loop-test .taken, start (c .before) .pre .few)
 
 from-u8-requires : tie.Need-from-u8-requires Inv-loop μ-loop
 from-u8-requires c κs = tt
@@ -69,13 +80,14 @@ add-j : tie.Need-add-j Inv-loop μ-loop
 add-j c = omega (arith, turn-below (turn-asked (c .before .before .before .before)))
 
 loop-less : tie.Need-loop-less Inv-loop μ-loop
-loop-less c = omega (arith, c .before .before .before .before .before .before .before .before .loop-test .taken)
+loop-less c = omega (arith, head (c .before .before .before .before) .loop-test .taken)
 
 loop-again : tie.Need-loop-again Inv-loop μ-loop
 loop-again c =
+    let led = c .before .before .before .before in
     let e = c .take .ensures in (
-      omega (arith, c .before .before .before .before .before .before .before .before .loop-test .taken),
-      record { by = λ p ts o. filling-more (turn (c .before .before .before .before) p ts o) (c .before .before .before .slot-relay .ensures .0) (e .0) (e .1) },
+      omega (arith, head led .loop-test .taken),
+      record { by = λ p ts o. filling-more (turn led p ts o) (c .before .before .before .slot-relay .ensures .0) (e .0) (e .1) },
     )
 
 returns : tie.Need-returns Inv-loop μ-loop
