@@ -2,7 +2,7 @@
 use mathlib.Core.List.{[], _∷_}
 use mathlib.Core.Path.{_≡_, refl}
 use Rattle.rule.specs.declared.Refusal.the-variants.{Done, NumberZero}
-use Rattle.rule.specs.Refusals.{replied, refusedBy}
+use Rattle.rule.specs.Refusals.{replied, bareReply}
 use Rattle.answer.specs.Text.{digitsBy, numberText, numberThen, replyText, moveText, moveTextAt, movesText, answerText}
 
 -- `0 10 1 1`, `m 5 10 20`
@@ -12,7 +12,7 @@ unfolding answerText replyText movesText moveTextAt moveText numberThen numberTe
 one-move = refl
 
 -- `3 0 0 0`
-pub refused : answerText (refusedBy NumberZero) [] ≡ (51 ∷ 32 ∷ 48 ∷ 32 ∷ 48 ∷ 32 ∷ 48 ∷ 10 ∷ [])
+pub refused : answerText (bareReply NumberZero) [] ≡ (51 ∷ 32 ∷ 48 ∷ 32 ∷ 48 ∷ 32 ∷ 48 ∷ 10 ∷ [])
 unfolding answerText replyText movesText moveTextAt moveText numberThen numberText digitsBy
 refused = refl
 

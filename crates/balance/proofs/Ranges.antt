@@ -13,7 +13,7 @@ use lib.Dec.{eqb, ltb}
 use Rattle.ring.proofs.Tests.{split, true-false}
 use Rattle.rule.specs.declared.Refusal.{Refusal}
 use Rattle.rule.specs.declared.Reply.{Reply}
-use Rattle.rule.specs.Refusals.{isDone, refusedBy, firstBar}
+use Rattle.rule.specs.Refusals.{isDone, bareReply, firstBar}
 use Rattle.rule.specs.Balance.{balanceRefusal, balancedLimit, balance}
 use Rattle.balance.specs.Balancing.{InRange, Balances}
 
@@ -76,11 +76,11 @@ module _ (p q tablets relays : ℕ) where
     pub fine : not done ≡ false → isDone (balanceRefusal p q tablets relays) ≡ true
     fine h = ap isDone (sym e) ∙ sym d ∙ not-false done h
 
-    pub balances-refused : not done ≡ true → {reply : Reply} → reply ≡ refusedBy r → Balances (balance p q tablets relays) (record { reply = reply; limit = 0 })
+    pub balances-refused : not done ≡ true → {reply : Reply} → reply ≡ bareReply r → Balances (balance p q tablets relays) (record { reply = reply; limit = 0 })
     unfolding balance
-    balances-refused h a = record { reply = a ∙ ap refusedBy e; limit = rw (← e, ← d, not-true done h) }
+    balances-refused h a = record { reply = a ∙ ap bareReply e; limit = rw (← e, ← d, not-true done h) }
 
-    pub balances-done : not done ≡ false → {limit : ℕ} → limit ≡ balancedLimit p q tablets relays → {reply : Reply} → reply ≡ refusedBy r
+    pub balances-done : not done ≡ false → {limit : ℕ} → limit ≡ balancedLimit p q tablets relays → {reply : Reply} → reply ≡ bareReply r
         → Balances (balance p q tablets relays) (record { reply = reply; limit = limit })
     unfolding balance
-    balances-done h l a = record { reply = a ∙ ap refusedBy e; limit = l ∙ rw (fine h) }
+    balances-done h l a = record { reply = a ∙ ap bareReply e; limit = l ∙ rw (fine h) }

@@ -23,16 +23,16 @@ pub fn balance(p: u32, q: u32, tablets: u32, relays: u32) -> Balanced
     ensures { λ b. ⌜ Balances (balance p q tablets relays) b ⌝ }
 {
     let refusal = why_not(p, q, tablets, relays);
-    let fine = rule::done(refusal);
-    if !fine {
+    let done = rule::done(refusal);
+    if !done {
         return Balanced {
-            reply: rule::refused(refusal),
+            reply: rule::bare_reply(refusal),
             limit: 0,
         };
     }
     let limit = limit_for(p, q, tablets, relays);
     Balanced {
-        reply: rule::refused(refusal),
+        reply: rule::bare_reply(refusal),
         limit: limit,
     }
 }

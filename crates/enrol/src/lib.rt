@@ -73,9 +73,9 @@ pub fn enrol(
 {
     let p = newcomer::prepare(scheme, relays, tablets, moves.len() / 3, t);
     let refusal = p.refusal;
-    let accepted = rule::done(refusal);
-    if !accepted {
-        return rule::refused(refusal);
+    let done = rule::done(refusal);
+    if !done {
+        return rule::bare_reply(refusal);
     }
     let c = p.chain;
     let place = c.place;

@@ -13,17 +13,17 @@ pub fn find(scheme: u32, relays: &[u32], tablets: &[u32], t: ring::TabletNumber)
 {
     let l = look::look(scheme, relays, tablets);
     let refusal = l.refusal;
-    let right = rule::done(refusal);
-    if !right {
-        return rule::refused(refusal);
+    let done = rule::done(refusal);
+    if !done {
+        return rule::bare_reply(refusal);
     }
     let n = l.n;
     let m = l.m;
     let seat = seat::seat_of(tablets, n, m, &l.survey.home, &l.survey.slot, t);
     let wrong = seat.refusal;
-    let there = rule::done(wrong);
-    if !there {
-        return rule::refused(wrong);
+    let done = rule::done(wrong);
+    if !done {
+        return rule::bare_reply(wrong);
     }
     let relay = seat.relay;
     rule::Reply {

@@ -20,7 +20,7 @@ use Rattle.rule.specs.declared.Call.{Call}
 use Rattle.rule.specs.declared.Reply.{Reply}
 use Rattle.rule.specs.Entry.{total}
 use Rattle.rule.specs.Rule.{Ring}
-use Rattle.rule.specs.Refusals.{isDone, refusedBy, Bar, bar, firstBar}
+use Rattle.rule.specs.Refusals.{isDone, bareReply, Bar, bar, firstBar}
 use Rattle.rule.specs.Calls.{Lent, edited, moves, wrongNumbers, refusal, accepted, declined, outcome}
 use Rattle.rule.specs.Calls as Calls
 use Rattle.rule.proofs.Accepted.{outcome-accepted, outcome-declined}
@@ -116,16 +116,16 @@ module _ (s : ℕ) (rs ts ms : List ℕ) (c : Call) where
 
   -- ---- the promise
 
-  pub after-declined : isDone why ≡ false → after s rs ts ms c ≡ record { reply = refusedBy why; lent = lists rs ts ms }
+  pub after-declined : isDone why ≡ false → after s rs ts ms c ≡ record { reply = bareReply why; lent = lists rs ts ms }
   unfolding after left outcomeOf declined
-  after-declined h = rw (outcome-declined (positions s) lent ring c h) (settled-refused why (refusedBy why) (lists rs ts ms) _ h)
+  after-declined h = rw (outcome-declined (positions s) lent ring c h) (settled-refused why (bareReply why) (lists rs ts ms) _ h)
 
   pub after-accepted : isDone why ≡ true → after s rs ts ms c ≡ written listed rs ts ms (accepted (positions s) ring c)
   unfolding after left outcomeOf accepted isDone
   after-accepted h = rw (outcome-accepted (positions s) lent ring c h) (settled-done Done _ (lists rs ts ms) _ refl)
 
-  pub refused-answers : (r : Refusal) → why ≡ r → isDone r ≡ false → (reply : Reply) → reply ≡ refusedBy r → Answers (after s rs ts ms c) reply (lists rs ts ms)
-  refused-answers r e h reply er = rw (after-declined (ap isDone e ∙ h)) (record { reply = er ∙ ap refusedBy (sym e); lent = refl })
+  pub refused-answers : (r : Refusal) → why ≡ r → isDone r ≡ false → (reply : Reply) → reply ≡ bareReply r → Answers (after s rs ts ms c) reply (lists rs ts ms)
+  refused-answers r e h reply er = rw (after-declined (ap isDone e ∙ h)) (record { reply = er ∙ ap bareReply (sym e); lent = refl })
 
   pub accepted-answers : why ≡ Done → (reply : Reply) (rs′ ts′ ms′ : List ℕ) → reply ≡ accepted (positions s) ring c .reply
       → rs′ ≡ relayTable (length rs) (Calls.after (positions s) ring c) → ts′ ≡ tabletTable (length ts) (Calls.after (positions s) ring c)

@@ -10,7 +10,7 @@ use Rattle.ring.specs.Scheme.{positions}
 use Rattle.ring.proofs.Tests.{split, true-false}
 use Rattle.rule.specs.declared.Call.{Call}
 use Rattle.rule.specs.declared.Reply.{Reply}
-use Rattle.rule.specs.Refusals.{isDone, refusedBy}
+use Rattle.rule.specs.Refusals.{isDone, bareReply}
 use Rattle.rule.specs.Calls.{Lent, Outcome, refusal, accepted, declined}
 use Rattle.rule.proofs.Accepted.{outcome-accepted, outcome-declined}
 use Rattle.promise.specs.Promise.{Answers}
@@ -26,7 +26,7 @@ module _ (s : ℕ) (rs ts ms : List ℕ) (c : Call) where
   abbrev lent : Lent
   lent = lentOf s rs ts ms
 
-  zeros : isDone (o .reply .refusal) ≡ false → o .reply ≡ refusedBy (o .reply .refusal)
+  zeros : isDone (o .reply .refusal) ≡ false → o .reply ≡ bareReply (o .reply .refusal)
   unfolding outcomeOf accepted declined isDone
   zeros f =
       split (isDone (refusal (positions s) lent (ringOf rs ts) c))
@@ -34,10 +34,10 @@ module _ (s : ℕ) (rs ts ms : List ℕ) (c : Call) where
       (λ d. rw (outcome-declined (positions s) lent (ringOf rs ts) c d))
 
   pub refused-stays : {r : Reply} {l : Lists ℕ} → Answers (after s rs ts ms c) r l → isDone (r .refusal) ≡ false
-      → (r ≡ refusedBy (r .refusal)) × (l ≡ lists rs ts ms)
+      → (r ≡ bareReply (r .refusal)) × (l ≡ lists rs ts ms)
   unfolding after left written
   refused-stays {r} {l} a f =
       let e : (r ≡ o .reply) × (l ≡ lists rs ts ms) =
       Promise.refused-stays (o .reply .refusal) (o .reply) (lists rs ts ms) (written listed rs ts ms o) (λ x. x .refusal) (λ d. d) a f in
-      let z : o .reply ≡ refusedBy (o .reply .refusal) = zeros (ap (λ (x : Reply). isDone (x .refusal)) (sym (e .0)) ∙ f) in
-      (e .0 ∙ z ∙ ap (λ (x : Reply). refusedBy (x .refusal)) (sym (e .0)), e .1)
+      let z : o .reply ≡ bareReply (o .reply .refusal) = zeros (ap (λ (x : Reply). isDone (x .refusal)) (sym (e .0)) ∙ f) in
+      (e .0 ∙ z ∙ ap (λ (x : Reply). bareReply (x .refusal)) (sym (e .0)), e .1)

@@ -9,7 +9,7 @@ use Prim.Native.Nat.{ℕ}
 use borrow.Author.Tests.{not-true, not-false}
 use Rattle.rule.specs.declared.Call.{Call}
 use Rattle.rule.specs.declared.Reply.{Reply}
-use Rattle.rule.specs.Refusals.{isDone, refusedBy}
+use Rattle.rule.specs.Refusals.{isDone, bareReply}
 use Rattle.promise.specs.Promise.{Answers}
 use Rattle.look.specs.declared.Looked.{Looked}
 use Rattle.look.specs.Promise.{lists, after}
@@ -20,7 +20,7 @@ module _ {s : ℕ} {rs ts : List ℕ} {l : Looked} (k : Looks s rs ts l) {done :
   pub look-start : not done ≡ false → Start s rs ts (l .n) (l .m) (l .survey)
   look-start h = k .start (sym e ∙ not-false done h)
 
-  pub look-answers : not done ≡ true → {reply : Reply} → reply ≡ refusedBy (l .refusal) → (c : Call) (ms : List ℕ)
+  pub look-answers : not done ≡ true → {reply : Reply} → reply ≡ bareReply (l .refusal) → (c : Call) (ms : List ℕ)
       → Answers (after s rs ts ms c) reply (lists rs ts ms)
   look-answers h {reply} er c ms =
       let no : isDone (l .refusal) ≡ false = sym e ∙ not-true _ h in

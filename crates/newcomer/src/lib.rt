@@ -103,8 +103,8 @@ pub fn prepare(
 {
     let l = look::look(scheme, relays, tablets);
     let first = l.refusal;
-    let right = rule::done(first);
-    if !right {
+    let done = rule::done(first);
+    if !done {
         return no_enrolment(first);
     }
     let n = l.n;
@@ -112,8 +112,8 @@ pub fn prepare(
     let at = spot::tablet_spot(tablets, m, t);
     let there = spot::tablet_there(tablets, m, at, t);
     let bar = newcomer_refusal(t, there, lent::tablet_places(tablets), m);
-    let free = rule::done(bar);
-    if !free {
+    let done = rule::done(bar);
+    if !done {
         return no_enrolment(bar);
     }
     let s = l.survey;

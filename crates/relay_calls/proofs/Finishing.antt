@@ -24,7 +24,7 @@ use Rattle.rule.specs.declared.Move.{Move}
 use Rattle.rule.specs.Entry.{Entry, numbers, total}
 use Rattle.rule.specs.Rule.{Ring}
 use Rattle.rule.specs.Rooms.{fill}
-use Rattle.rule.specs.Refusals.{isDone, replied, refusedBy, firstBar}
+use Rattle.rule.specs.Refusals.{isDone, replied, bareReply, firstBar}
 use Rattle.rule.specs.Calls.{edited, moved, moves, refusal, accepted}
 use Rattle.rule.specs.Calls as Calls
 use Rattle.rule.proofs.Accepted.{Edited, edited-tables, after-fill}
@@ -56,7 +56,7 @@ use Rattle.relay_calls.proofs.Replacing.{filled-replaced}
 -- ---- a refusal from 1 to 7
 
 pub edit-refused : {s : ℕ} {rs ts : List ℕ} (ms : List ℕ) {c : Call} {x : ℕ} {e : Edit} {d : Bool} {reply : Reply} → Edits s rs ts c x e → d ≡ isDone (e .refusal) → not d ≡ true
-    → reply ≡ refusedBy (e .refusal) → Answers (after s rs ts ms c) reply (lists rs ts ms)
+    → reply ≡ bareReply (e .refusal) → Answers (after s rs ts ms c) reply (lists rs ts ms)
 edit-refused {s} {rs} {ts} ms {c} {e = e} {reply = reply} o ed h er =
     let n : isDone (e .refusal) ≡ false = sym ed ∙ not-true _ h in
     refused-answers s rs ts ms c (e .refusal) (o .refused n ms) n reply er
@@ -163,7 +163,7 @@ module _ {s : ℕ} {rs ts : List ℕ} {c : Call} {n m : ℕ} {own : List ℕ} {a
           ∙ sym (planned .refusal ∙ rw (t, u)))
           (λ u. let z : r .refusal ≡ Done = planned .refusal ∙ rw (t, u) in absurd (true-false (sym (ap isDone z) ∙ d))))
 
-      pub plan-refused : {d : Bool} {reply : Reply} → d ≡ isDone (r .refusal) → not d ≡ true → reply ≡ refusedBy (r .refusal) → Answers (after s rs ts ms c) reply (lists rs ts ms)
+      pub plan-refused : {d : Bool} {reply : Reply} → d ≡ isDone (r .refusal) → not d ≡ true → reply ≡ bareReply (r .refusal) → Answers (after s rs ts ms c) reply (lists rs ts ms)
       plan-refused {reply = reply} ed h er =
           let z : isDone (r .refusal) ≡ false = sym ed ∙ not-true _ h in
           refused-answers s rs ts ms c (r .refusal) (plan-why z) z reply er

@@ -34,9 +34,9 @@ fn finish(
         reply (lists (now (relays .exit)) (now (tablets .exit)) (now (moves .exit)))) ⌝ }
 {
     let first = e.refusal;
-    let passed = rule::done(first);
-    if !passed {
-        return rule::refused(first);
+    let done = rule::done(first);
+    if !done {
+        return rule::bare_reply(first);
     }
     let own = e.relays;
     let m = e.m;
@@ -50,9 +50,9 @@ fn finish(
         moves.len() / 3,
     );
     let last = plan.refusal;
-    let planned = rule::done(last);
-    if !planned {
-        return rule::refused(last);
+    let done = rule::done(last);
+    if !done {
+        return rule::bare_reply(last);
     }
     let count = plan::carry_out(&own, &plan.relay, tablets, moves, m);
     put_back(relays, &own);

@@ -30,8 +30,8 @@ pub(crate) fn find_relay(
 {
     let l = look::look(scheme, relays, tablets);
     let refusal = l.refusal;
-    let looked = rule::done(refusal);
-    if !looked {
+    let done = rule::done(refusal);
+    if !done {
         let around = nowhere();
         return Found {
             refusal: refusal,

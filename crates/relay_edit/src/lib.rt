@@ -60,15 +60,15 @@ pub fn edit_add(
 {
     let f = found::find_relay(scheme, relays, tablets, r);
     let first = f.refusal;
-    let found = rule::done(first);
-    if !found {
+    let done = rule::done(first);
+    if !done {
         return no_edit(first);
     }
     let n = f.n;
     let full = lent::relay_places(relays) <= n;
     let wrong = refused::add_refusal(r, limit, f.there, full);
-    let fine = rule::done(wrong);
-    if !fine {
+    let done = rule::done(wrong);
+    if !done {
         return no_edit(wrong);
     }
     let mut own = copied(relays);
@@ -93,14 +93,14 @@ pub fn edit_remove(scheme: u32, relays: &[u32], tablets: &[u32], r: ring::RelayN
 {
     let f = found::find_relay(scheme, relays, tablets, r);
     let first = f.refusal;
-    let found = rule::done(first);
-    if !found {
+    let done = rule::done(first);
+    if !done {
         return no_edit(first);
     }
     let n = f.n;
     let wrong = spot::missing(r.0, f.there);
-    let fine = rule::done(wrong);
-    if !fine {
+    let done = rule::done(wrong);
+    if !done {
         return no_edit(wrong);
     }
     let mut own = copied(relays);
@@ -130,14 +130,14 @@ pub fn edit_set(
 {
     let f = found::find_relay(scheme, relays, tablets, r);
     let first = f.refusal;
-    let found = rule::done(first);
-    if !found {
+    let done = rule::done(first);
+    if !done {
         return no_edit(first);
     }
     let n = f.n;
     let wrong = refused::set_refusal(r, limit, f.there);
-    let fine = rule::done(wrong);
-    if !fine {
+    let done = rule::done(wrong);
+    if !done {
         return no_edit(wrong);
     }
     let mut own = copied(relays);

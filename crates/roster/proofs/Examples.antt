@@ -12,7 +12,7 @@ use Rattle.rule.specs.Entry as Entry
 use Rattle.rule.specs.Order as Order
 use Rattle.rule.specs.Rule as Rule
 use Rattle.rule.specs.Refusals as Refusals
-use Rattle.rule.specs.Refusals.{refusedBy}
+use Rattle.rule.specs.Refusals.{bareReply}
 use Rattle.lent.specs.Table as Table
 use Rattle.lent.specs.Shape as Shape
 use Rattle.meaning.specs.Meaning as Meaning
@@ -32,7 +32,7 @@ bytes [] = []
 bytes (x ∷ xs) = Fnv.fourBytes x ++ bytes xs
 
 abbrev done : ℕ → List ℕ → List ℕ → After Said.Reading (List ℕ × List ℕ)
-done scheme rs ts = record { reply = record { reply = refusedBy Done; scheme = scheme }; lent = (rs, ts) }
+done scheme rs ts = record { reply = record { reply = bareReply Done; scheme = scheme }; lent = (rs, ts) }
 
 abbrev refused : Refusal → List ℕ → List ℕ → After Said.Reading (List ℕ × List ℕ)
 refused why rs ts = record { reply = Reading.refusedReading why; lent = (rs, ts) }

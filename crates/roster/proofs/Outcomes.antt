@@ -15,7 +15,7 @@ use Rattle.ring.specs.Scheme.{known}
 use Rattle.ring.proofs.Tests.{split, true-false, and-left, and-right}
 use Rattle.rule.specs.declared.Refusal.{Refusal}
 use Rattle.rule.specs.declared.Refusal.the-variants.{Done, RosterContentWrong}
-use Rattle.rule.specs.Refusals.{isDone, refusedBy, bar, firstBar}
+use Rattle.rule.specs.Refusals.{isDone, bareReply, bar, firstBar}
 use Rattle.lent.specs.Table.{relayPlaces, tabletPlaces}
 use Rattle.lent.specs.Shape.{relayFits, tabletFits}
 use Rattle.promise.specs.Promise.{Answers}
@@ -40,7 +40,7 @@ module _ (b rs ts : List ℕ) where
   refused-answers why e h er =
       Promise.refused-answers (refusal b rs ts) (refusedReading (refusal b rs ts)) (rs, ts) _ (ap isDone e ∙ h) (er ∙ ap refusedReading (sym e))
 
-  taken-answers : refusal b rs ts ≡ Done → {r : Reading} {rs′ ts′ : List ℕ} → r .reply ≡ refusedBy Done → r .scheme ≡ rosterScheme b
+  taken-answers : refusal b rs ts ≡ Done → {r : Reading} {rs′ ts′ : List ℕ} → r .reply ≡ bareReply Done → r .scheme ≡ rosterScheme b
       → rs′ ≡ relayTable (length rs) (rosterRing b) → ts′ ≡ tabletTable (length ts) (rosterRing b) → Answers (after b rs ts) r (rs′, ts′)
   unfolding after taken isDone
   taken-answers e er es ers ets =
@@ -154,7 +154,7 @@ module _ {b rs ts : List ℕ} {t : Trailer} (o : Open b rs ts t) where
         let et : ts′ ≡ ts = w .tablets ∙ rw f in
         rw (er, et) (refused-answers b rs ts RosterContentWrong (why-content RosterContentWrong (rw h)) refl ex)
 
-    pub over-right : not r ≡ false → {x : Reading} → x .reply ≡ refusedBy Done → x .scheme ≡ t .scheme → Answers (after b rs ts) x (rs′, ts′)
+    pub over-right : not r ≡ false → {x : Reading} → x .reply ≡ bareReply Done → x .scheme ≡ t .scheme → Answers (after b rs ts) x (rs′, ts′)
     unfolding firstBar relayTable tabletTable
     over-right h er es =
         let f : r ≡ true = not-false r h in

@@ -8,7 +8,7 @@ use mathlib.Core.Path.{_≡_, refl, sym, ap, _∙_}
 use Prim.Native.Nat.{ℕ}
 use Rattle.ring.proofs.Tests.{split}
 use Rattle.rule.specs.declared.Refusal.{Refusal}
-use Rattle.rule.specs.Refusals.{isDone, refusedBy}
+use Rattle.rule.specs.Refusals.{isDone, bareReply}
 use Rattle.promise.specs.Promise.{Answers}
 use Rattle.promise.proofs.Binding as Promise
 use Rattle.promise.proofs.Binding.{settled-done, settled-refused}
@@ -19,15 +19,15 @@ module _ (b rs ts : List ℕ) {r : Reading} {l : List ℕ × List ℕ} (a : Answ
   abbrev why : Refusal
   why = refusal b rs ts
 
-  zeros : after b rs ts .reply .reply ≡ refusedBy (after b rs ts .reply .reply .refusal)
+  zeros : after b rs ts .reply .reply ≡ bareReply (after b rs ts .reply .reply .refusal)
   unfolding after taken
   zeros =
       split (isDone why)
       (λ d. rw (settled-done why (refusedReading why) (rs, ts) (taken b rs ts) d))
       (λ d. rw (settled-refused why (refusedReading why) (rs, ts) (taken b rs ts) d))
 
-  pub reply-zeros : r .reply ≡ refusedBy (r .reply .refusal)
-  reply-zeros = ap (λ (x : Reading). x .reply) (a .reply) ∙ zeros ∙ ap (λ (x : Reading). refusedBy (x .reply .refusal)) (sym (a .reply))
+  pub reply-zeros : r .reply ≡ bareReply (r .reply .refusal)
+  reply-zeros = ap (λ (x : Reading). x .reply) (a .reply) ∙ zeros ∙ ap (λ (x : Reading). bareReply (x .reply .refusal)) (sym (a .reply))
 
   pub refused-stays : isDone (r .reply .refusal) ≡ false → (r .scheme ≡ 0) × (l ≡ (rs, ts))
   unfolding after taken isDone

@@ -6,7 +6,7 @@ use lib.ListN.{length}
 use Rattle.ring.specs.Scheme.{known}
 use Rattle.rule.specs.declared.Refusal.{Refusal}
 use Rattle.rule.specs.declared.Refusal.the-variants.{Done, SchemeUnknown, RosterShapeWrong, RosterContentWrong, OutputUnfit}
-use Rattle.rule.specs.Refusals.{refusedBy, bar, firstBar}
+use Rattle.rule.specs.Refusals.{bareReply, bar, firstBar}
 use Rattle.promise.specs.Promise.{After, settled}
 use Rattle.write.specs.Tables.{relayTable, tabletTable}
 use Rattle.layout.specs.Roster.{shapeRight, relayCount, tabletCount, rosterScheme, rosterRing}
@@ -27,12 +27,12 @@ refusal b rs ts =
 unfoldable pub taken : List ℕ → List ℕ → List ℕ → After Reading (List ℕ × List ℕ)
 taken b rs ts =
     record {
-      reply = record { reply = refusedBy Done; scheme = rosterScheme b };
+      reply = record { reply = bareReply Done; scheme = rosterScheme b };
       lent = (relayTable (length rs) (rosterRing b), tabletTable (length ts) (rosterRing b));
     }
 
 abbrev pub refusedReading : Refusal → Reading
-refusedReading why = record { reply = refusedBy why; scheme = 0 }
+refusedReading why = record { reply = bareReply why; scheme = 0 }
 
 unfoldable pub after : List ℕ → List ℕ → List ℕ → After Reading (List ℕ × List ℕ)
 after b rs ts =

@@ -76,8 +76,8 @@ fn full_tables(scheme: u32, relays: &[u32], tablets: &[u32]) -> bool
 {
     let l = look::look(scheme, relays, tablets);
     let refusal = l.refusal;
-    let right = rule::done(refusal);
-    if !right {
+    let done = rule::done(refusal);
+    if !done {
         return false;
     }
     let relay_places = lent::relay_places(relays);
@@ -158,7 +158,7 @@ fn refused(refusal: rule::Refusal) -> Reading
     ensures { λ r. ⌜ r ≡ refusedReading refusal ⌝ }
 {
     Reading {
-        reply: rule::refused(refusal),
+        reply: rule::bare_reply(refusal),
         scheme: 0,
     }
 }
@@ -173,8 +173,8 @@ pub fn read(bytes: &[u8], relays: &mut [u32], tablets: &mut [u32]) -> Reading
     let m = t.tablets;
     let scheme = t.scheme;
     let bar = early_refusal(t.right, scheme, n, m, relays, tablets);
-    let open = rule::done(bar);
-    if !open {
+    let done = rule::done(bar);
+    if !done {
         return refused(bar);
     }
     let mut own_relays = [0u32; RELAY_NUMBERS];
@@ -195,7 +195,7 @@ pub fn read(bytes: &[u8], relays: &mut [u32], tablets: &mut [u32]) -> Reading
         return refused(rule::Refusal::RosterContentWrong);
     }
     Reading {
-        reply: rule::refused(rule::Refusal::Done),
+        reply: rule::bare_reply(rule::Refusal::Done),
         scheme: scheme,
     }
 }

@@ -21,7 +21,7 @@ use Rattle.rule.specs.declared.Tally.{Tally}
 use Rattle.rule.specs.Entry.{Entry, numbers, has, besideOf, load, loads, count}
 use Rattle.rule.specs.Rule as Rule
 use Rattle.rule.specs.Rule.{Ring, right}
-use Rattle.rule.specs.Refusals.{isDone, refusedBy, Bar, bar, firstBar}
+use Rattle.rule.specs.Refusals.{isDone, bareReply, Bar, bar, firstBar}
 use Rattle.rule.specs.Calls.{Lent, subject, edited, after, wrongNumbers, refusal, accepted, declined, outcome}
 use Rattle.rule.specs.Tally.{mostCounted, more, enrolments, withdrawals, counted, Step, Station, step, run, new}
 use Rattle.rule.specs.Stability.{Rising, In, Sits}
@@ -131,7 +131,7 @@ step-even p s c f r =
     rw (outcome-accepted p (c .lent) (s .ring) (c .call) d)
     (λ g e. even-done (s .tally) (c .call) (accepted p (s .ring) (c .call) .reply) refl (length (s .ring .tablets)) (length (after p (s .ring) (c .call) .tablets)) k e g))
     (λ d. rw (outcome-declined p (c .lent) (s .ring) (c .call) d)
-    (λ g e. even-refused (s .tally) (c .call) (refusedBy (refusal p (c .lent) (s .ring) (c .call))) d (length (s .ring .tablets)) e))
+    (λ g e. even-refused (s .tally) (c .call) (bareReply (refusal p (c .lent) (s .ring) (c .call))) d (length (s .ring .tablets)) e))
 
 run-even : (p : Positions) (s : Station) (cs : List Step) → Fit cs → right p (s .ring) ≡ true → Going (run p s cs .tally) → Even s → Even (run p s cs)
 unfolding run

@@ -16,7 +16,7 @@ use Rattle.rule.specs.declared.Move.{Move}
 use Rattle.rule.specs.Entry.{Entry, numbers, has, besideOf, insert, delete, put, total, count, upTo}
 use Rattle.rule.specs.Order.{order}
 use Rattle.rule.specs.Rule.{Ring, full, hasRoom, placement, right, mostLimit}
-use Rattle.rule.specs.Refusals.{isDone, replied, refusedBy, Bar, bar, firstBar}
+use Rattle.rule.specs.Refusals.{isDone, replied, bareReply, Bar, bar, firstBar}
 
 -- ---- what is lent, besides the entries
 
@@ -147,7 +147,7 @@ accepted p g c =
 
 -- the tables stay as they are, and no move is written
 unfoldable pub declined : Ring → Refusal → Outcome
-declined g r = record { reply = refusedBy r; ring = g; moves = [] }
+declined g r = record { reply = bareReply r; ring = g; moves = [] }
 
 unfoldable pub outcome : Positions → Lent → Ring → Call → Outcome
 outcome p m g c = elim (isDone (refusal p m g c)) [ true ↦ accepted p g c | false ↦ declined g (refusal p m g c) ]

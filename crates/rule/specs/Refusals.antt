@@ -29,9 +29,9 @@ isDone r = eqb (numberOf r) 0
 abbrev pub replied : Refusal → ℕ → ℕ → ℕ → Reply
 replied r relay passed moves = record { refusal = r; relay = record { 0 = relay }; passed = passed; moves = moves }
 
--- a refused call gives 0 for the last three
-abbrev pub refusedBy : Refusal → Reply
-refusedBy r = replied r 0 0 0
+-- 0 for the last three: so refused calls reply, and sheet, reading and balance also when done
+abbrev pub bareReply : Refusal → Reply
+bareReply r = replied r 0 0 0
 
 -- ---- in their order
 

@@ -1,6 +1,6 @@
 // The types that document 01's definitions speak of. What a call is to do stands in `specs/`, the laws of placement in `proofs/`.
 ghost use mathlib.Core.Path.{_≡_};
-ghost use Rattle.rule.specs.Refusals.{numberOf, isDone, refusedBy};
+ghost use Rattle.rule.specs.Refusals.{numberOf, isDone, bareReply};
 
 // The greatest limit that a relay may have ("The lent tables").
 pub const MOST_LIMIT: u32 = 4096;
@@ -83,9 +83,9 @@ pub fn done(refusal: Refusal) -> bool
     number(refusal) == 0
 }
 
-// The reply of a refused call.
-pub fn refused(refusal: Refusal) -> Reply
-    ensures { λ r. ⌜ r ≡ refusedBy refusal ⌝ }
+// A reply that bears its refusal alone, whether the call is done or refused.
+pub fn bare_reply(refusal: Refusal) -> Reply
+    ensures { λ r. ⌜ r ≡ bareReply refusal ⌝ }
 {
     Reply {
         refusal: refusal,

@@ -14,7 +14,7 @@ use Rattle.rule.specs.declared.Reply.{Reply}
 use Rattle.rule.specs.declared.Call.{Call}
 use Rattle.rule.specs.declared.Call.the-variants.{Withdraw, Find}
 use Rattle.rule.specs.Entry.{has, besideOf}
-use Rattle.rule.specs.Refusals.{isDone, refusedBy, firstBar}
+use Rattle.rule.specs.Refusals.{isDone, bareReply, firstBar}
 use Rattle.rule.specs.Calls.{Lent, wrongNumbers, aheadOf}
 use Rattle.lent.specs.Table.{tabletRelay}
 use Rattle.survey.specs.declared.Survey.{Survey}
@@ -39,7 +39,7 @@ module _ {s : ℕ} {rs ts : List ℕ} {n m : ℕ} {v : Survey} (b : Start s rs t
   missing-withdraw lent = rw (start-ring b)
 
   pub seat-refused : {seat : Seat} → SeatOf ts n m (v .home) (v .slot) (t .0) seat → {done : Bool} → done ≡ isDone (seat .refusal) → not done ≡ true
-      → {reply : Reply} → reply ≡ refusedBy (seat .refusal) → (c : Call)
+      → {reply : Reply} → reply ≡ bareReply (seat .refusal) → (c : Call)
       → ((lent : Lent) → firstBar (wrongNumbers lent (ringOf rs ts) c) ≡ missing (t .0) (has (tabletsIn ts m) (t .0))) → (ms : List ℕ)
       → Answers (after s rs ts ms c) reply (lists rs ts ms)
   seat-refused {seat} f ed h {reply} ep c e ms =

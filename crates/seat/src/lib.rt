@@ -39,8 +39,8 @@ pub fn seat_of<'a>(
     let at = spot::tablet_spot(tablets, m, t);
     let there = spot::tablet_there(tablets, m, at, t);
     let refusal = spot::missing(t.0, there);
-    let fine = rule::done(refusal);
-    if !fine {
+    let done = rule::done(refusal);
+    if !done {
         return Seat {
             refusal: refusal,
             at: 0,

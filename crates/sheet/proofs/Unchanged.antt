@@ -9,7 +9,7 @@ use Prim.Native.Nat.{ℕ}
 use Rattle.ring.proofs.Tests.{split}
 use Rattle.rule.specs.declared.Refusal.{Refusal}
 use Rattle.rule.specs.declared.Reply.{Reply}
-use Rattle.rule.specs.Refusals.{isDone, refusedBy}
+use Rattle.rule.specs.Refusals.{isDone, bareReply}
 use Rattle.promise.specs.Promise.{Answers}
 use Rattle.promise.proofs.Binding as Promise
 use Rattle.promise.proofs.Binding.{settled-done, settled-refused}
@@ -19,16 +19,16 @@ module _ (s : ℕ) (rs ts lent : List ℕ) {r : Reply} {lent′ : List ℕ} (a :
   abbrev why : Refusal
   why = sheetRefusal s rs ts lent
 
-  replied : after s rs ts lent .reply ≡ refusedBy why
+  replied : after s rs ts lent .reply ≡ bareReply why
   unfolding after
   replied =
       split (isDone why)
-      (λ d. rw (settled-done why (refusedBy why) lent _ d))
-      (λ d. rw (settled-refused why (refusedBy why) lent _ d))
+      (λ d. rw (settled-done why (bareReply why) lent _ d))
+      (λ d. rw (settled-refused why (bareReply why) lent _ d))
 
-  pub reply-zeros : r ≡ refusedBy (r .refusal)
-  reply-zeros = a .reply ∙ replied ∙ ap (λ (x : Reply). refusedBy (x .refusal)) (sym (a .reply ∙ replied))
+  pub reply-zeros : r ≡ bareReply (r .refusal)
+  reply-zeros = a .reply ∙ replied ∙ ap (λ (x : Reply). bareReply (x .refusal)) (sym (a .reply ∙ replied))
 
   pub refused-stays : isDone (r .refusal) ≡ false → lent′ ≡ lent
   unfolding after
-  refused-stays f = Promise.refused-stays why (refusedBy why) lent _ (λ x. x .refusal) (λ d. d) a f .1
+  refused-stays f = Promise.refused-stays why (bareReply why) lent _ (λ x. x .refusal) (λ d. d) a f .1

@@ -20,7 +20,7 @@ use Rattle.rule.specs.declared.Call.the-variants.{Withdraw}
 use Rattle.rule.specs.Entry.{Entry, has, besideOf, delete, total}
 use Rattle.rule.specs.Rule.{Ring}
 use Rattle.rule.specs.Sweeps.{seated}
-use Rattle.rule.specs.Refusals.{isDone, replied, refusedBy, firstBar}
+use Rattle.rule.specs.Refusals.{isDone, replied, bareReply, firstBar}
 use Rattle.rule.specs.Calls as Calls
 use Rattle.rule.specs.Calls.{edited, moves, passed, relayOf, refusal, wrongNumbers, accepted}
 use Rattle.rule.proofs.Counts.{length-delete}
@@ -91,7 +91,7 @@ module _ {s : ℕ} {rs ts : List ℕ} {n m : ℕ} {v : Survey} (b : Start s rs t
         ap length moves-are ∙ length-moves ts (tabletRelay ts (seat .at)) (take (chain .count) (chain .places))
         ∙ length-take-le (chain .count) (chain .places) (omega (arith, c .few, c .size))
 
-    pub withdraw-short : length ms / 3 < chain .count → {reply : Reply} → reply ≡ refusedBy MoveListTooShort → Answers (after s rs ts ms (Withdraw t)) reply (lists rs ts ms)
+    pub withdraw-short : length ms / 3 < chain .count → {reply : Reply} → reply ≡ bareReply MoveListTooShort → Answers (after s rs ts ms (Withdraw t)) reply (lists rs ts ms)
     unfolding isDone
     withdraw-short l {reply} e =
         refused-answers s rs ts ms (Withdraw t) MoveListTooShort

@@ -17,17 +17,17 @@ pub fn withdraw(
 {
     let l = look::look(scheme, relays, tablets);
     let refusal = l.refusal;
-    let right = rule::done(refusal);
-    if !right {
-        return rule::refused(refusal);
+    let done = rule::done(refusal);
+    if !done {
+        return rule::bare_reply(refusal);
     }
     let n = l.n;
     let m = l.m;
     let seat = seat::seat_of(tablets, n, m, &l.survey.home, &l.survey.slot, t);
     let wrong = seat.refusal;
-    let there = rule::done(wrong);
-    if !there {
-        return rule::refused(wrong);
+    let done = rule::done(wrong);
+    if !done {
+        return rule::bare_reply(wrong);
     }
     let at = seat.at;
     let chain = holes::holes(
@@ -40,7 +40,7 @@ pub fn withdraw(
     );
     let count = chain.count;
     if moves.len() / 3 < count {
-        return rule::refused(rule::Refusal::MoveListTooShort);
+        return rule::bare_reply(rule::Refusal::MoveListTooShort);
     }
     holes::fill(tablets, moves, m, at, &chain.places, count);
     let made = count as u32;

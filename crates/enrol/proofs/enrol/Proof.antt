@@ -43,8 +43,8 @@ prepare-requires c κs = search needs
 done-requires : tie.Need-done-requires
 done-requires c κs = search needs
 
-refused-requires : tie.Need-refused-requires
-refused-requires c κs = search needs
+bare-reply-requires : tie.Need-bare-reply-requires
+bare-reply-requires c κs = search needs
 
 same-length : tie.Need-same-length
 same-length c = search needs
@@ -52,7 +52,7 @@ same-length c = search needs
 returns : tie.Need-returns
 returns c =
     let plan = c .before .before .before in
-    refused-answers _ _ _ _ _ _ (sym (prepared plan .refusal)) (test-false _ (c .before .before .done .ensures) (c .before .if1 .taken)) _ (c .refused .ensures)
+    refused-answers _ _ _ _ _ _ (sym (prepared plan .refusal)) (test-false _ (c .before .before .done .ensures) (c .before .if1 .taken)) _ (c .bare-reply .ensures)
 
 array-read-from-u8 : tie.Need-array-read-from-u8
 array-read-from-u8 c = search needs
@@ -99,7 +99,7 @@ enrol-spec =
     (tie.spec
     prepare-requires
     done-requires
-    refused-requires
+    bare-reply-requires
     same-length
     returns
     array-read-from-u8

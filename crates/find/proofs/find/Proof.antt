@@ -14,11 +14,11 @@ look-requires c κs = search needs
 done-requires : tie.Need-done-requires
 done-requires c κs = search needs
 
-refused-requires : tie.Need-refused-requires
-refused-requires c κs = search needs
+bare-reply-requires : tie.Need-bare-reply-requires
+bare-reply-requires c κs = search needs
 
 returns : tie.Need-returns
-returns c = look-answers (c .before .before .before .look .ensures) (c .before .before .done .ensures) (c .before .if1 .taken) (c .refused .ensures) _
+returns c = look-answers (c .before .before .before .look .ensures) (c .before .before .done .ensures) (c .before .if1 .taken) (c .bare-reply .ensures) _
 
 seat-of-requires : tie.Need-seat-of-requires
 seat-of-requires c κs = start-slotted (look-start (c .before .before .before .before .before .look .ensures) (c .before .before .before .before .done .ensures) (c .before .before .before .if1 .left))
@@ -26,13 +26,13 @@ seat-of-requires c κs = start-slotted (look-start (c .before .before .before .b
 done-requires-2 : tie.Need-done-requires-2
 done-requires-2 c κs = search needs
 
-refused-requires-2 : tie.Need-refused-requires-2
-refused-requires-2 c κs = search needs
+bare-reply-requires-2 : tie.Need-bare-reply-requires-2
+bare-reply-requires-2 c κs = search needs
 
 returns-2 : tie.Need-returns-2
 returns-2 c =
     let b = look-start (c .before .before .before .before .before .before .before .before .before .look .ensures) (c .before .before .before .before .before .before .before .before .done .ensures) (c .before .before .before .before .before .before .before .if1 .left) in
-    seat-refused b _ (c .before .before .before .seat-of .ensures) (c .before .before .done2 .ensures) (c .before .if2 .taken) (c .refused2 .ensures) _ (missing-find b _)
+    seat-refused b _ (c .before .before .before .seat-of .ensures) (c .before .before .done2 .ensures) (c .before .if2 .taken) (c .bare-reply2 .ensures) _ (missing-find b _)
 
 returns-3 : tie.Need-returns-3
 returns-3 c = find-found (look-start (c .before .before .before .before .before .before .before .before .before .look .ensures) (c .before .before .before .before .before .before .before .before .done .ensures) (c .before .before .before .before .before .before .before .if1 .left)) _ (c .before .before .before .seat-of .ensures) (c .before .before .done2 .ensures) (c .before .if2 .left)
@@ -43,10 +43,10 @@ find-spec =
     (tie.spec
     look-requires
     done-requires
-    refused-requires
+    bare-reply-requires
     returns
     seat-of-requires
     done-requires-2
-    refused-requires-2
+    bare-reply-requires-2
     returns-2
     returns-3)

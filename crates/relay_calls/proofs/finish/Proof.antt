@@ -9,11 +9,11 @@ use Rattle.relay_calls.proofs.finish.Tie as tie
 done-requires : tie.Need-done-requires
 done-requires c κs = search needs
 
-refused-requires : tie.Need-refused-requires
-refused-requires c κs = search needs
+bare-reply-requires : tie.Need-bare-reply-requires
+bare-reply-requires c κs = search needs
 
 returns : tie.Need-returns
-returns c = λ s k o. edit-refused _ o (c .before .before .done .ensures) (c .before .if1 .taken) (c .refused .ensures)
+returns c = λ s k o. edit-refused _ o (c .before .before .done .ensures) (c .before .if1 .taken) (c .bare-reply .ensures)
 
 slice-aggregate-work-out : tie.Need-slice-aggregate-work-out
 slice-aggregate-work-out c = search needs
@@ -24,14 +24,14 @@ work-out-requires c κs = edit-plans (edit-passed (c .before .before .before .be
 done-requires-2 : tie.Need-done-requires-2
 done-requires-2 c κs = search needs
 
-refused-requires-2 : tie.Need-refused-requires-2
-refused-requires-2 c κs = search needs
+bare-reply-requires-2 : tie.Need-bare-reply-requires-2
+bare-reply-requires-2 c κs = search needs
 
 same-length : tie.Need-same-length
 same-length c = search needs
 
 returns-2 : tie.Need-returns-2
-returns-2 c = λ s k o. plan-refused (edit-passed o (c .before .before .before .before .before .before .before .before .before .before .before .done .ensures) (c .before .before .before .before .before .before .before .before .before .before .if1 .left)) (o .about) _ (c .before .before .before .work-out .ensures) (c .before .before .done2 .ensures) (c .before .if2 .taken) (c .refused2 .ensures)
+returns-2 c = λ s k o. plan-refused (edit-passed o (c .before .before .before .before .before .before .before .before .before .before .before .done .ensures) (c .before .before .before .before .before .before .before .before .before .before .if1 .left)) (o .about) _ (c .before .before .before .work-out .ensures) (c .before .before .done2 .ensures) (c .before .if2 .taken) (c .bare-reply2 .ensures)
 
 slice-aggregate-carry-out : tie.Need-slice-aggregate-carry-out
 slice-aggregate-carry-out c = search needs
@@ -62,12 +62,12 @@ finish-spec =
     tie.close
     (tie.spec
     done-requires
-    refused-requires
+    bare-reply-requires
     returns
     slice-aggregate-work-out
     work-out-requires
     done-requires-2
-    refused-requires-2
+    bare-reply-requires-2
     same-length
     returns-2
     slice-aggregate-carry-out

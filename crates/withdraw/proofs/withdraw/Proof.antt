@@ -16,14 +16,14 @@ look-requires c κs = search needs
 done-requires : tie.Need-done-requires
 done-requires c κs = search needs
 
-refused-requires : tie.Need-refused-requires
-refused-requires c κs = search needs
+bare-reply-requires : tie.Need-bare-reply-requires
+bare-reply-requires c κs = search needs
 
 same-length : tie.Need-same-length
 same-length c = search needs
 
 returns : tie.Need-returns
-returns c = look-answers (c .before .before .before .look .ensures) (c .before .before .done .ensures) (c .before .if1 .taken) (c .refused .ensures) _ _
+returns c = look-answers (c .before .before .before .look .ensures) (c .before .before .done .ensures) (c .before .if1 .taken) (c .bare-reply .ensures) _ _
 
 seat-of-requires : tie.Need-seat-of-requires
 seat-of-requires c κs = start-slotted (look-start (c .before .before .before .before .before .before .look .ensures) (c .before .before .before .before .before .done .ensures) (c .before .before .before .before .if1 .left))
@@ -31,8 +31,8 @@ seat-of-requires c κs = start-slotted (look-start (c .before .before .before .b
 done-requires-2 : tie.Need-done-requires-2
 done-requires-2 c κs = search needs
 
-refused-requires-2 : tie.Need-refused-requires-2
-refused-requires-2 c κs = search needs
+bare-reply-requires-2 : tie.Need-bare-reply-requires-2
+bare-reply-requires-2 c κs = search needs
 
 same-length-2 : tie.Need-same-length-2
 same-length-2 c = search needs
@@ -40,15 +40,15 @@ same-length-2 c = search needs
 returns-2 : tie.Need-returns-2
 returns-2 c =
     let b = look-start (c .before .before .before .before .before .before .before .before .before .before .look .ensures) (c .before .before .before .before .before .before .before .before .before .done .ensures) (c .before .before .before .before .before .before .before .before .if1 .left) in
-    seat-refused b _ (c .before .before .before .seat-of .ensures) (c .before .before .done2 .ensures) (c .before .if2 .taken) (c .refused2 .ensures) _ (missing-withdraw b _) _
+    seat-refused b _ (c .before .before .before .seat-of .ensures) (c .before .before .done2 .ensures) (c .before .if2 .taken) (c .bare-reply2 .ensures) _ (missing-withdraw b _) _
 
 holes-requires : tie.Need-holes-requires
 holes-requires c κs =
     let b = look-start (c .before .before .before .before .before .before .before .before .before .before .before .before .before .before .look .ensures) (c .before .before .before .before .before .before .before .before .before .before .before .before .before .done .ensures) (c .before .before .before .before .before .before .before .before .before .before .before .before .if1 .left) in
     (start-sweeps b, stands b _ (c .before .before .before .before .before .before .before .seat-of .ensures) (c .before .before .before .before .before .before .done2 .ensures) (c .before .before .before .before .before .if2 .left) .below)
 
-refused-requires-3 : tie.Need-refused-requires-3
-refused-requires-3 c κs = search needs
+bare-reply-requires-3 : tie.Need-bare-reply-requires-3
+bare-reply-requires-3 c κs = search needs
 
 same-length-3 : tie.Need-same-length-3
 same-length-3 c = search needs
@@ -56,7 +56,7 @@ same-length-3 c = search needs
 returns-3 : tie.Need-returns-3
 returns-3 c =
     let b = look-start (c .before .before .before .before .before .before .before .before .before .before .before .before .before .before .before .before .before .look .ensures) (c .before .before .before .before .before .before .before .before .before .before .before .before .before .before .before .before .done .ensures) (c .before .before .before .before .before .before .before .before .before .before .before .before .before .before .before .if1 .left) in
-    withdraw-short b _ (c .before .before .before .before .before .before .before .before .before .before .seat-of .ensures) (c .before .before .before .before .before .before .before .before .before .done2 .ensures) (c .before .before .before .before .before .before .before .before .if2 .left) (c .before .before .holes .ensures) _ (c .before .if3 .taken) (c .refused3 .ensures)
+    withdraw-short b _ (c .before .before .before .before .before .before .before .before .before .before .seat-of .ensures) (c .before .before .before .before .before .before .before .before .before .done2 .ensures) (c .before .before .before .before .before .before .before .before .if2 .left) (c .before .before .holes .ensures) _ (c .before .if3 .taken) (c .bare-reply3 .ensures)
 
 fill-requires : tie.Need-fill-requires
 fill-requires c κs =
@@ -86,16 +86,16 @@ withdraw-spec =
     (tie.spec
     look-requires
     done-requires
-    refused-requires
+    bare-reply-requires
     same-length
     returns
     seat-of-requires
     done-requires-2
-    refused-requires-2
+    bare-reply-requires-2
     same-length-2
     returns-2
     holes-requires
-    refused-requires-3
+    bare-reply-requires-3
     same-length-3
     returns-3
     fill-requires
