@@ -41,7 +41,8 @@ module _ {p : Positions} {rs ts : List ℕ} {n m : ℕ} {keys last : List ℕ} {
   pub steps-few : stepsTo n h stop < n
   steps-few = steps-inside n h in-ring stop (f .inside)
 
-  pub going-start : {x : ℕ} (place seat : List ℕ) → length place ≡ mostRelays → length seat ≡ mostRelays → Going rs ts n m keys h stop x place seat 0 0 h
+  pub going-start : {x : ℕ} (place seat : List ℕ) → length place ≡ mostRelays → length seat ≡ mostRelays
+      → Going rs ts n m keys h stop x place seat 0 0 h
   going-start {x} place seat lp ls =
       record {
         short = omega arith;
@@ -81,42 +82,54 @@ module _ {p : Positions} {rs ts : List ℕ} {n m : ℕ} {keys last : List ℕ} {
     place-there z = omega (arith, g .keeps .places c z (omega arith), f .rises .tabletsFit .there)
 
     pub going-more : (k ≡ stop → ⊥) → (i w l : ℕ) → i ≡ slotRelay keys k → w ≡ nameAt x ts place c → l ≡ getD last i 0
-        → (place′ seat′ : List ℕ) (c′ k′ : ℕ) → Visited (givesWay ts w l) place seat place′ seat′ c i l c′ → k′ ≡ nextSlot n k → Going rs ts n m keys h stop x place′ seat′ c′ (d + 1) k′
+        → (place′ seat′ : List ℕ) (c′ k′ : ℕ) → Visited (givesWay ts w l) place seat place′ seat′ c i l c′ → k′ ≡ nextSlot n k
+        → Going rs ts n m keys h stop x place′ seat′ c′ (d + 1) k′
     unfolding nextSlot
     going-more ne i w l ei ew el place′ seat′ c′ k′ v ek =
         record {
           short = omega (arith, more-steps ne);
-          at = ek ∙ sym (slot-next n h in-ring d (omega (arith, more-steps ne, steps-few)) ∙ ap (λ (z : ℕ). cond (eqb (z + 1) n) 0 (z + 1)) (sym (g .at)));
+          at = ek ∙ sym (slot-next n h in-ring d (omega (arith, more-steps ne, steps-few))
+              ∙ ap (λ (z : ℕ). cond (eqb (z + 1) n) 0 (z + 1)) (sym (g .at)));
           few = count-few (givesWay ts w l) (v .count);
           place-size = v .place-size;
           seat-size = v .seat-size;
           keeps = subst (λ (s : Turn). Turned x rs ts place′ seat′ n m c′ s) (sym one-more)
-              (keeps-visited x rs ts place seat n m c (turn (tabletsIn ts m) (newcomer x) (round rs keys n h d)) (g .keeps) (g .place-size) (g .seat-size) (omega (arith, room-for-one ne)) i (rw ei relay-small) (room-for-one ne)
+              (keeps-visited x rs ts place seat n m c (turn (tabletsIn ts m) (newcomer x) (round rs keys n h d)) (g .keeps) (g .place-size)
+              (g .seat-size) (omega (arith, room-for-one ne)) i (rw ei relay-small) (room-for-one ne)
               (tabletsIn ts m) (entry (roundNumber rs keys n h d) (roundLimit rs keys n h d)) l place′ seat′ c′ (rw el (last-small i ei)) number
-              (ap (greatest (tabletsIn ts m)) number ∙ greatest-last (f .rises) i (rw ei relay-small) last (f .greatest) ∙ ap (λ (z : ℕ). numberBefore ts z) (sym el))
+              (ap (greatest (tabletsIn ts m)) number ∙ greatest-last (f .rises) i (rw ei relay-small) last (f .greatest)
+              ∙ ap (λ (z : ℕ). numberBefore ts z) (sym el))
               w (ew ∙ sym (g .keeps .walker)) v);
         }
       where
         number : roundNumber rs keys n h d ≡ relayNumber rs i
         number = unfold roundNumber in (ap (λ (z : ℕ). relayNumber rs (slotRelay keys z)) (sym (g .at)) ∙ ap (relayNumber rs) (sym ei))
 
-        one-more : turn (tabletsIn ts m) (newcomer x) (round rs keys n h (d + 1)) ≡ turnAt (tabletsIn ts m) (turn (tabletsIn ts m) (newcomer x) (round rs keys n h d)) (entry (roundNumber rs keys n h d) (roundLimit rs keys n h d))
-        one-more = ap (λ (z : ℕ). turn (tabletsIn ts m) (newcomer x) (round rs keys n h z)) (add-one d) ∙ unfold places in (turn-last (tabletsIn ts m) (newcomer x) (round rs keys n h d) (entry (roundNumber rs keys n h d) (roundLimit rs keys n h d)))
+        one-more : turn (tabletsIn ts m) (newcomer x) (round rs keys n h (d + 1)) ≡ turnAt (tabletsIn ts m)
+            (turn (tabletsIn ts m) (newcomer x) (round rs keys n h d)) (entry (roundNumber rs keys n h d) (roundLimit rs keys n h d))
+        one-more =
+            ap (λ (z : ℕ). turn (tabletsIn ts m) (newcomer x) (round rs keys n h z)) (add-one d)
+            ∙ unfold places in (turn-last (tabletsIn ts m) (newcomer x) (round rs keys n h d)
+            (entry (roundNumber rs keys n h d) (roundLimit rs keys n h d)))
 
         count-few : (b : Bool) → c′ ≡ cond b (c + 1) c → c′ ≤ d + 1
         count-few true e = omega (arith, g .few)
         count-few false e = omega (arith, g .few)
 
-    pub going-end : k ≡ stop → (i : ℕ) → i ≡ slotRelay keys stop → (seat′ : List ℕ) → seat′ ≡ set seat c i → Chained rs ts n m keys h stop x c d place seat′
+    pub going-end : k ≡ stop → (i : ℕ) → i ≡ slotRelay keys stop → (seat′ : List ℕ) → seat′ ≡ set seat c i
+        → Chained rs ts n m keys h stop x c d place seat′
     going-end e i ei seat′ es =
         record {
           steps = all-steps e;
           few = g .few;
           is = ap (λ (z : ℕ). seats (turn (tabletsIn ts m) (newcomer x) (round rs keys n h d)) (relayNumber rs z)) (sym ei)
-              ∙ keeps-end x rs ts place seat n m c (turn (tabletsIn ts m) (newcomer x) (round rs keys n h d)) (g .keeps) (g .place-size) (g .seat-size) (omega (arith, g .few, g .short, steps-few, few-relays)) i stop-small
+              ∙ keeps-end x rs ts place seat n m c (turn (tabletsIn ts m) (newcomer x) (round rs keys n h d)) (g .keeps) (g .place-size)
+              (g .seat-size) (omega (arith, g .few, g .short, steps-few, few-relays)) i stop-small
               ∙ ap (λ (z : List ℕ). chainOf x rs ts place z (c + 1)) (sym es);
           places = g .keeps .places;
-          relays = λ j a. rw es (stored (λ y v. y ≤ c → v < n) seat c (omega (arith, g .seat-size, g .few, g .short, steps-few, few-relays)) (λ q. stop-small) j (λ ne q. g .keeps .relays j (omega arith)) a);
+          relays = λ j a. rw es
+              (stored (λ y v. y ≤ c → v < n) seat c (omega (arith, g .seat-size, g .few, g .short, steps-few, few-relays))
+              (λ q. stop-small) j (λ ne q. g .keeps .relays j (omega arith)) a);
         }
       where
         stop-small : i < n

@@ -51,9 +51,17 @@ way-some ts w l h =
     (λ s. let z : l ≡ 0 → ⊥ = eqb-false l 0 s in omega arith)
 
 module _ {b : Bool} {place seat place′ seat′ : List ℕ} {c i l : ℕ} where
-  pub visited-yes : b ≡ true → length place ≡ 256 → length seat ≡ 256 → seat′ ≡ set seat c i → place′ ≡ set place (c + 1) (l - 1) → Visited b place seat place′ seat′ c i l (c + 1)
+  pub visited-yes : b ≡ true → length place ≡ 256 → length seat ≡ 256 → seat′ ≡ set seat c i → place′ ≡ set place (c + 1) (l - 1)
+      → Visited b place seat place′ seat′ c i l (c + 1)
   visited-yes e lp ls es ep =
-      rw e (record { count = refl; seats = es; places = ep; seat-size = ap length es ∙ length-set seat c i ∙ ls; place-size = ap length ep ∙ length-set place (c + 1) (l - 1) ∙ lp })
+      rw e (record {
+        count = refl;
+        seats = es;
+        places = ep;
+        seat-size = ap length es ∙ length-set seat c i ∙ ls;
+        place-size = ap length ep
+            ∙ length-set place (c + 1) (l - 1) ∙ lp;
+      })
 
   pub visited-no : b ≡ false → length place ≡ 256 → length seat ≡ 256 → seat′ ≡ seat → place′ ≡ place → Visited b place seat place′ seat′ c i l c
   visited-no e lp ls es ep = rw e (record { count = refl; seats = es; places = ep; seat-size = ap length es ∙ ls; place-size = ap length ep ∙ lp })
@@ -86,7 +94,8 @@ module _ {p : Positions} {rs ts : List ℕ} {n m : ℕ} (r : Rises p rs ts n m) 
   last-none i c = getD-replicate 256 i 0 0 (omega (arith, few))
 
   -- one more tablet: its relay's entry is its own place, and the others stay
-  last-more : (P : ℕ → ℕ → Type 0) (j : ℕ) → j < m → P (relayFor p rs ts n j) (suc j) → (i : ℕ) → ((i ≡ relayFor p rs ts n j → ⊥) → P i (getD (lastAfter p rs ts n j) i 0))
+  last-more : (P : ℕ → ℕ → Type 0) (j : ℕ) → j < m → P (relayFor p rs ts n j) (suc j) → (i : ℕ)
+      → ((i ≡ relayFor p rs ts n j → ⊥) → P i (getD (lastAfter p rs ts n j) i 0))
       → P i (getD (lastAfter p rs ts n (suc j)) i 0)
   unfolding lastAfter
   last-more P j h here i other =
@@ -94,9 +103,12 @@ module _ {p : Positions} {rs ts : List ℕ} {n m : ℕ} (r : Rises p rs ts n m) 
 
   pub last-within : (j : ℕ) → j ≤ m → (i : ℕ) → i < n → getD (lastAfter p rs ts n j) i 0 ≤ j
   last-within zero h i c = omega (arith, last-none i c)
-  last-within (suc j) h i c = last-more (λ x v. v ≤ suc j) j h (omega arith) i (λ d. let z : getD (lastAfter p rs ts n j) i 0 ≤ j = last-within j (omega arith) i c in omega arith)
+  last-within (suc j) h i c =
+      last-more (λ x v. v ≤ suc j) j h (omega arith) i
+      (λ d. let z : getD (lastAfter p rs ts n j) i 0 ≤ j = last-within j (omega arith) i c in omega arith)
 
-  greatest-upto : (j : ℕ) → j ≤ m → (i : ℕ) → i < n → greatest (tabletsIn ts j) (relayNumber rs i) ≡ numberBefore ts (getD (lastAfter p rs ts n j) i 0)
+  greatest-upto : (j : ℕ) → j ≤ m → (i : ℕ) → i < n → greatest (tabletsIn ts j) (relayNumber rs i) ≡ numberBefore ts
+      (getD (lastAfter p rs ts n j) i 0)
   greatest-upto zero h i c = start ∙ ap (numberBefore ts) (sym (last-none i c))
     where
       start : greatest (tabletsIn ts 0) (relayNumber rs i) ≡ numberBefore ts 0
@@ -105,14 +117,18 @@ module _ {p : Positions} {rs ts : List ℕ} {n m : ℕ} (r : Rises p rs ts n m) 
       let f : Found p rs ts n j = right-found r j h in
       ap (λ (z : ℕ). greatest (tabletsIn ts z) (relayNumber rs i)) (sym (add-one j))
       ∙ greatest-more (tabletNumber ts) (tabletRelay ts) j (relayNumber rs i) (ascending-fewer (j + 1) (omega arith) (r .tablets))
-      ∙ last-more (λ x v. x ≡ i → cond (eqb (tabletRelay ts j) (relayNumber rs i)) (tabletNumber ts j) (greatest (tabletsIn ts j) (relayNumber rs i)) ≡ numberBefore ts v) j h
-      (λ e. rw (eq-eqb (tabletRelay ts j) (relayNumber rs i) (sym (f .is) ∙ ap (relayNumber rs) e)) (sym (number-before ts (suc j) (omega arith) ∙ ap (tabletNumber ts) (omega arith))))
+      ∙ last-more (λ x v. x ≡ i → cond (eqb (tabletRelay ts j) (relayNumber rs i)) (tabletNumber ts j)
+      (greatest (tabletsIn ts j) (relayNumber rs i)) ≡ numberBefore ts v) j h
+      (λ e. rw (eq-eqb (tabletRelay ts j) (relayNumber rs i) (sym (f .is) ∙ ap (relayNumber rs) e))
+      (sym (number-before ts (suc j) (omega arith) ∙ ap (tabletNumber ts) (omega arith))))
       i
-      (λ d e. rw (ne-eqb (tabletRelay ts j) (relayNumber rs i) (λ (w : tabletRelay ts j ≡ relayNumber rs i). d (sym (ascending-apart (r .relays) (relayFor p rs ts n j) i (f .below) c (f .is ∙ w)))))
+      (λ d e. rw (ne-eqb (tabletRelay ts j) (relayNumber rs i)
+      (λ (w : tabletRelay ts j ≡ relayNumber rs i). d (sym (ascending-apart (r .relays) (relayFor p rs ts n j) i (f .below) c (f .is ∙ w)))))
       (greatest-upto j (omega arith) i c))
       refl
 
-  pub greatest-last : (i : ℕ) → i < n → (last : List ℕ) → last ≡ lastAfter p rs ts n m → greatest (tabletsIn ts m) (relayNumber rs i) ≡ numberBefore ts (getD last i 0)
+  pub greatest-last : (i : ℕ) → i < n → (last : List ℕ) → last ≡ lastAfter p rs ts n m
+      → greatest (tabletsIn ts m) (relayNumber rs i) ≡ numberBefore ts (getD last i 0)
   greatest-last i c last e = greatest-upto m (omega arith) i c ∙ ap (λ (l : List ℕ). numberBefore ts (getD l i 0)) (sym e)
 
 -- ---- the state of a turn
@@ -128,7 +144,8 @@ module _ (x : ℕ) (rs ts : List ℕ) where
   from-ext seat seat′ zero h = refl
   from-ext seat seat′ (suc c) h = ap (relayNumber rs) (h c (omega arith))
 
-  move-ext : (place place′ seat seat′ : List ℕ) (c : ℕ) → (0 < c → getD place′ c 0 ≡ getD place c 0) → ((i : ℕ) → i < suc c → getD seat′ i 0 ≡ getD seat i 0)
+  move-ext : (place place′ seat seat′ : List ℕ) (c : ℕ) → (0 < c → getD place′ c 0 ≡ getD place c 0)
+      → ((i : ℕ) → i < suc c → getD seat′ i 0 ≡ getD seat i 0)
       → linkAt x rs ts place′ seat′ c ≡ linkAt x rs ts place seat c
   unfolding linkAt
   move-ext place place′ seat seat′ c hp hs =
@@ -137,24 +154,33 @@ module _ (x : ℕ) (rs ts : List ℕ) where
       let d = ap (relayNumber rs) (hs c (omega arith)) in
       λ i. move (a i) (b i) (d i)
 
-  chain-ext : (place place′ seat seat′ : List ℕ) (c : ℕ) → ((i : ℕ) → 0 < i → i < c → getD place′ i 0 ≡ getD place i 0) → ((i : ℕ) → i < c → getD seat′ i 0 ≡ getD seat i 0)
+  chain-ext : (place place′ seat seat′ : List ℕ) (c : ℕ) → ((i : ℕ) → 0 < i → i < c → getD place′ i 0 ≡ getD place i 0)
+      → ((i : ℕ) → i < c → getD seat′ i 0 ≡ getD seat i 0)
       → chainOf x rs ts place′ seat′ c ≡ chainOf x rs ts place seat c
   unfolding chainOf
   chain-ext place place′ seat seat′ zero hp hs = refl
   chain-ext place place′ seat seat′ (suc c) hp hs =
-      rw (chain-ext place place′ seat seat′ c (λ i a b. hp i a (omega arith)) (λ i b. hs i (omega arith)), move-ext place place′ seat seat′ c (λ a. hp c a (omega arith)) hs)
+      rw (
+        chain-ext place place′ seat seat′ c (λ i a b. hp i a (omega arith))
+            (λ i b. hs i (omega arith)),
+        move-ext place place′ seat seat′ c (λ a. hp c a (omega arith)) hs,
+      )
 
   pub keeps-start : (place seat : List ℕ) (n m : ℕ) → Turned x rs ts place seat n m 0 (newcomer x)
   unfolding nameAt fromAt chainOf newcomer
-  keeps-start place seat n m = record { walker = refl; from = refl; chain = refl; places = λ i a b. absurd (omega arith); relays = λ i a. absurd (omega arith) }
+  keeps-start place seat n m =
+      record { walker = refl; from = refl; chain = refl; places = λ i a b. absurd (omega arith); relays = λ i a. absurd (omega arith) }
 
-  module _ (place seat : List ℕ) (n m c : ℕ) (s : Turn) (k : Turned x rs ts place seat n m c s) (lp : length place ≡ 256) (ls : length seat ≡ 256) (hc : c < 256) (r : ℕ) (hr : r < n) where
+  module _ (place seat : List ℕ) (n m c : ℕ) (s : Turn) (k : Turned x rs ts place seat n m c s) (lp : length place ≡ 256)
+      (ls : length seat ≡ 256) (hc : c < 256) (r : ℕ) (hr : r < n) where
     -- the walker sits down at relay r
-    sat : (place′ : List ℕ) → ((i : ℕ) → i ≤ c → getD place′ i 0 ≡ getD place i 0) → seats s (relayNumber rs r) ≡ chainOf x rs ts place′ (set seat c r) (suc c)
+    sat : (place′ : List ℕ) → ((i : ℕ) → i ≤ c → getD place′ i 0 ≡ getD place i 0)
+        → seats s (relayNumber rs r) ≡ chainOf x rs ts place′ (set seat c r) (suc c)
     unfolding seats chainOf linkAt
     sat place′ hp =
         let same : (i : ℕ) → i < c → getD (set seat c r) i 0 ≡ getD seat i 0 = λ i l. getD-set-other seat c i r 0 (λ (e : i ≡ c). omega arith) in
-        let a : s .chain ≡ chainOf x rs ts place′ (set seat c r) c = k .chain ∙ sym (chain-ext place place′ seat (set seat c r) c (λ i z l. hp i (omega arith)) same) in
+        let a : s .chain ≡ chainOf x rs ts place′ (set seat c r) c =
+        k .chain ∙ sym (chain-ext place place′ seat (set seat c r) c (λ i z l. hp i (omega arith)) same) in
         let w : s .walker ≡ nameAt x ts place′ c = k .walker ∙ sym (name-ext place place′ c (λ z. hp c (omega arith))) in
         let f : s .from ≡ fromAt rs (set seat c r) c = k .from ∙ sym (from-ext seat (set seat c r) c same) in
         let e : relayNumber rs r ≡ relayNumber rs (getD (set seat c r) c 0) = ap (relayNumber rs) (sym (getD-set-same seat c r 0 (omega arith))) in
@@ -164,12 +190,14 @@ module _ (x : ℕ) (rs ts : List ℕ) where
     keeps-end = sat place (λ i l. refl) ∙ ap (chainOf x rs ts place (set seat c r)) (sym (add-one c))
 
     -- the tablet at place l - 1 gave way
-    gave-way : c + 1 < 256 → (T : List Entry) (e : Entry) (l : ℕ) → 0 < l → l ≤ m → e .number ≡ relayNumber rs r → greatest T (e .number) ≡ tabletNumber ts (l - 1)
+    gave-way : c + 1 < 256 → (T : List Entry) (e : Entry) (l : ℕ) → 0 < l → l ≤ m → e .number ≡ relayNumber rs r
+        → greatest T (e .number) ≡ tabletNumber ts (l - 1)
         → Turned x rs ts (set place (c + 1) (l - 1)) (set seat c r) n m (c + 1) (displacedBy T s e)
     unfolding nameAt fromAt
     gave-way hc′ T e l hl hm en eg =
         let here : getD (set place (c + 1) (l - 1)) (c + 1) 0 ≡ l - 1 = getD-set-same place (c + 1) (l - 1) 0 (omega arith) in
-        let other : (i : ℕ) → i ≤ c → getD (set place (c + 1) (l - 1)) i 0 ≡ getD place i 0 = λ i h. getD-set-other place (c + 1) i (l - 1) 0 (λ (z : i ≡ c + 1). omega arith) in
+        let other : (i : ℕ) → i ≤ c → getD (set place (c + 1) (l - 1)) i 0 ≡ getD place i 0 =
+        λ i h. getD-set-other place (c + 1) i (l - 1) 0 (λ (z : i ≡ c + 1). omega arith) in
         let seat-here : getD (set seat c r) c 0 ≡ r = getD-set-same seat c r 0 (omega arith) in
         rw (add-one c)
         (record {
@@ -181,18 +209,22 @@ module _ (x : ℕ) (rs ts : List ℕ) where
         })
       where
         stored-place : (i : ℕ) → 0 < i → i ≤ suc c → getD (set place (suc c) (l - 1)) i 0 < m
-        stored-place i a b = stored (λ y v. 0 < y → y ≤ suc c → v < m) place (suc c) (omega arith) (λ p q. omega arith) i (λ d p q. k .places i p (omega arith)) a b
+        stored-place i a b =
+            stored (λ y v. 0 < y → y ≤ suc c → v < m) place (suc c) (omega arith) (λ p q. omega arith) i (λ d p q. k .places i p (omega arith)) a b
 
         stored-seat : (i : ℕ) → i < suc c → getD (set seat c r) i 0 < n
         stored-seat i a = stored (λ y v. y < suc c → v < n) seat c (omega arith) (λ p. hr) i (λ d p. k .relays i (omega arith)) a
 
-    pub keeps-visited : c + 1 < 256 → (T : List Entry) (e : Entry) (l : ℕ) (place′ seat′ : List ℕ) (c′ : ℕ) → l ≤ m → e .number ≡ relayNumber rs r → greatest T (e .number) ≡ numberBefore ts l
+    pub keeps-visited : c + 1 < 256 → (T : List Entry) (e : Entry) (l : ℕ) (place′ seat′ : List ℕ) (c′ : ℕ) → l ≤ m
+        → e .number ≡ relayNumber rs r → greatest T (e .number) ≡ numberBefore ts l
         → (w : ℕ) → w ≡ s .walker → Visited (givesWay ts w l) place seat place′ seat′ c r l c′ → Turned x rs ts place′ seat′ n m c′ (turnAt T s e)
     keeps-visited hc′ T e l place′ seat′ c′ hm en eg w ew v =
-        let b : givesWay ts w l ≡ ltb (s .walker) (greatest T (e .number)) = way-greatest ts w l ∙ ap (λ (z : ℕ). ltb z (numberBefore ts l)) ew ∙ ap (ltb (s .walker)) (sym eg) in
+        let b : givesWay ts w l ≡ ltb (s .walker) (greatest T (e .number)) =
+        way-greatest ts w l ∙ ap (λ (z : ℕ). ltb z (numberBefore ts l)) ew ∙ ap (ltb (s .walker)) (sym eg) in
         split (givesWay ts w l)
         (λ y.
         let some-one : 0 < l = way-some ts w l y in
-        let g : Turned x rs ts (set place (c + 1) (l - 1)) (set seat c r) n m (c + 1) (displacedBy T s e) = gave-way hc′ T e l some-one hm en (eg ∙ number-before ts l some-one) in
+        let g : Turned x rs ts (set place (c + 1) (l - 1)) (set seat c r) n m (c + 1) (displacedBy T s e) =
+        gave-way hc′ T e l some-one hm en (eg ∙ number-before ts l some-one) in
         rw (turnAt-yes T s e (sym b ∙ y), v .seats, v .places, v .count, y) g)
         (λ y. rw (turnAt-no T s e (sym b ∙ y), v .seats, v .places, v .count, y) k)

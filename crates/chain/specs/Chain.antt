@@ -53,6 +53,7 @@ pub record From (p : Positions) (rs ts : List ℕ) (n m : ℕ) (keys last : List
 pub record Chained (rs ts : List ℕ) (n m : ℕ) (keys : List ℕ) (h stop x c d : ℕ) (place seat : List ℕ) : Type 0 where
   pub steps : d ≡ stepsTo n h stop
   pub few : c ≤ d
-  pub is : seats (turn (tabletsIn ts m) (newcomer x) (round rs keys n h d)) (relayNumber rs (slotRelay keys stop)) ≡ chainOf x rs ts place seat (c + 1)
+  pub is : seats (turn (tabletsIn ts m) (newcomer x) (round rs keys n h d)) (relayNumber rs (slotRelay keys stop))
+      ≡ chainOf x rs ts place seat (c + 1)
   pub places : (i : ℕ) → 0 < i → i ≤ c → getD place i 0 < m
   pub relays : (i : ℕ) → i ≤ c → getD seat i 0 < n

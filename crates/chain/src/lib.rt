@@ -69,8 +69,10 @@ fn visit(
     i: usize,
     l: usize,
 ) -> usize
-    requires { ⌜ (c + 1 < 256) × (i < 256) × (l ≤ 4096) × (l ≤ tabletPlaces (now tablets)) × (length (now place) ≡ 256) × (length (now seat) ≡ 256) ⌝ }
-    ensures { λ r. ⌜ Visited (givesWay (now (tablets .entry)) (w .0) l) (now (place .entry)) (now (seat .entry)) (now (place .exit)) (now (seat .exit)) c i l r ⌝ }
+    requires { ⌜ (c + 1 < 256) × (i < 256) × (l ≤ 4096) × (l ≤ tabletPlaces (now tablets))
+        × (length (now place) ≡ 256) × (length (now seat) ≡ 256) ⌝ }
+    ensures { λ r. ⌜ Visited (givesWay (now (tablets .entry)) (w .0) l) (now (place .entry)) (now (seat .entry))
+        (now (place .exit)) (now (seat .exit)) c i l r ⌝ }
 {
     let gives = gives_way(tablets, w, l);
     if gives {

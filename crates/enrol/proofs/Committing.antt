@@ -9,7 +9,21 @@ use Rattle.ring.specs.Scheme.{positions}
 use Rattle.ring.specs.declared.TabletNumber.{TabletNumber}
 use Rattle.ring.proofs.Tests.{true-false}
 use Rattle.rule.specs.declared.Refusal.{Refusal}
-use Rattle.rule.specs.declared.Refusal.the-variants.{Done, SchemeUnknown, TablesNotRight, NumberZero, TooLarge, NotThere, ThereAlready, NoUnusedPlace, LimitsTooSmall, MoveListTooShort, RosterShapeWrong, RosterContentWrong, OutputUnfit}
+use Rattle.rule.specs.declared.Refusal.the-variants.{
+  Done,
+  SchemeUnknown,
+  TablesNotRight,
+  NumberZero,
+  TooLarge,
+  NotThere,
+  ThereAlready,
+  NoUnusedPlace,
+  LimitsTooSmall,
+  MoveListTooShort,
+  RosterShapeWrong,
+  RosterContentWrong,
+  OutputUnfit,
+}
 use Rattle.rule.specs.declared.Call.the-variants.{Enrol}
 use Rattle.rule.specs.declared.Move.{Move}
 use Rattle.rule.specs.Entry.{Entry, insert, put}
@@ -52,7 +66,8 @@ done-is RosterContentWrong h = absurd (true-false (sym h))
 done-is OutputUnfit h = absurd (true-false (sym h))
 
 -- the newcomer put in before or after the others sat down
-seated-insert : (ms : List Move) (low : ℕ) → Rising low (tabletsOf ms) → (x c : ℕ) → x ≤ low → (es : List Entry) → seated ms (insert x c es) ≡ insert x c (seated ms es)
+seated-insert : (ms : List Move) (low : ℕ) → Rising low (tabletsOf ms) → (x c : ℕ) → x ≤ low → (es : List Entry)
+    → seated ms (insert x c es) ≡ insert x c (seated ms es)
 unfolding seated
 seated-insert [] low up x c h es = refl
 seated-insert (m ∷ ms) low up x c h es =
@@ -74,7 +89,8 @@ module _ {s : ℕ} {rs ts ms : List ℕ} {t : TabletNumber} {p : Enrolment} (pl 
     },
   )
 
-  pub enrolled-answers : {ts₁ ms₁ ts₂ : List ℕ} → OthersSeated (t .0) rs ts ms (p .chain .place) (p .chain .seat) ts₁ ms₁ (p .m) (p .chain .others) → (r i : ℕ) → i ≡ getD (p .chain .seat) 0 0 → r ≡ relayNumber rs i
+  pub enrolled-answers : {ts₁ ms₁ ts₂ : List ℕ} → OthersSeated (t .0) rs ts ms (p .chain .place) (p .chain .seat) ts₁ ms₁ (p .m)
+      (p .chain .others) → (r i : ℕ) → i ≡ getD (p .chain .seat) 0 0 → r ≡ relayNumber rs i
       → WroteTablets ts₁ ts₂ (p .m + 1) (insert (t .0) r (tabletsIn ts₁ (p .m)))
       → Answers (after s rs ts ms (Enrol t)) (replied Done r (p .chain .steps) (p .chain .others)) (lists rs ts₂ ms₁)
   unfolding accepted tabletTable
@@ -82,12 +98,21 @@ module _ {s : ℕ} {rs ts ms : List ℕ} {t : TabletNumber} {p : Enrolment} (pl 
       let relay : r ≡ relayNumber rs (getD (p .chain .seat) 0 0) = er ∙ ap (relayNumber rs) ei in
       let others : List Move = othersOf (t .0) rs ts (p .chain .place) (p .chain .seat) (p .chain .others) in
       let entries : tabletsIn ts₂ (p .m + 1) ≡ Calls.after (positions s) (ringOf rs ts) (Enrol t) .tablets =
-      wrote .entries ∙ ap (λ (z : ℕ). insert (t .0) z (tabletsIn ts₁ (p .m))) relay ∙ ap (insert (t .0) (relayNumber rs (getD (p .chain .seat) 0 0))) (sd .entries)
-      ∙ sym (seated-insert others (t .0) (w .above) (t .0) (relayNumber rs (getD (p .chain .seat) 0 0)) (omega arith) (tabletsIn ts (p .m))) ∙ sym (w .tablets) in
+      wrote .entries ∙ ap (λ (z : ℕ). insert (t .0) z (tabletsIn ts₁ (p .m))) relay
+      ∙ ap (insert (t .0) (relayNumber rs (getD (p .chain .seat) 0 0))) (sd .entries)
+      ∙ sym (seated-insert others (t .0) (w .above) (t .0) (relayNumber rs (getD (p .chain .seat) 0 0)) (omega arith) (tabletsIn ts (p .m)))
+      ∙ sym (w .tablets) in
       let whole : WroteTablets ts ts₂ (p .m + 1) (Calls.after (positions s) (ringOf rs ts) (Enrol t) .tablets) =
-      record { size = wrote .size ∙ sd .size; entries = entries; number = λ j a. wrote .number j a ∙ sd .numbers j; relay = λ j a. wrote .relay j a ∙ sd .relays j (omega arith) } in
+      record {
+        size = wrote .size ∙ sd .size;
+        entries = entries;
+        number = λ j a. wrote .number j a
+            ∙ sd .numbers j;
+        relay = λ j a. wrote .relay j a ∙ sd .relays j (omega arith);
+      } in
       accepted-answers s rs ts ms (Enrol t) (sym (pl .refusal) ∙ done-is (p .refusal) d) _ rs ts₂ ms₁
-      (λ k. replied Done ((relay ∙ sym (w .relay)) k) (sym (w .passed) k) ((sym (length-others (t .0) rs ts (p .chain .place) (p .chain .seat) (p .chain .others)) ∙ ap length (sym (w .moves))) k))
+      (λ k. replied Done ((relay ∙ sym (w .relay)) k) (sym (w .passed) k)
+      ((sym (length-others (t .0) rs ts (p .chain .place) (p .chain .seat) (p .chain .others)) ∙ ap length (sym (w .moves))) k))
       (w .relays)
       (tablets-table whole (w .whole) (omega (arith, w .unused)) (zeros-behind (p .m + 1) (omega arith) (w .zeros)))
       (sd .list ∙ ap (λ (z : List Move). listed z ms) (sym (w .moves)))

@@ -1,4 +1,5 @@
--- The new relay at slot s, and the relay that was there before, which is behind it now: which of the two a tablet comes to first, if its home was there.
+-- The new relay at slot s, and the relay that was there before, which is behind it now: which of the two a tablet comes to first, if its
+-- home was there.
 --   after-on, after-round, more-before, more-behind, more-here    the two definitions by cases
 --   old-first    past the new relay the old one, round the top of the ring
 --   new-first    on this side of it the new one
@@ -85,7 +86,8 @@ module _ {position position′ keys keys′ : List ℕ} {n s new q : ℕ} (l : G
         let a = more-line l s b in
         let e : at (s + 1) ≡ getD keys s 0 / 2 ^ 32 = ap at (sym (skip-high s s (omega arith))) ∙ old-at s b in
         let c : clockwise t (at (s + 1)) ≡ at (s + 1) - t =
-        clockwise-on t (at (s + 1)) (omega (arith, o .ahead s (omega arith) b)) (omega (arith, a .key, a .below, l .few, l .ordered .holds .small (a .place) (a .below))) in
+        clockwise-on t (at (s + 1)) (omega (arith, o .ahead s (omega arith) b))
+        (omega (arith, a .key, a .below, l .few, l .ordered .holds .small (a .place) (a .below))) in
         omega (arith, c, e)
 
     old-round : n ≤ s → 0 < n → far 0 ≡ (getD keys 0 0 / 2 ^ 32 + (2 ^ 32 - t)) * 2 ^ 32
@@ -105,7 +107,8 @@ module _ {position position′ keys keys′ : List ℕ} {n s new q : ℕ} (l : G
             let a = more-line l s b in
             rw (after-on n s b)
             (sooner-far (s + 1) s (omega (arith, few)) (omega (arith, few))
-            ∙ lt-ltb (far (s + 1)) (far s) (omega (arith, old-near b, new-far, a .key, a .below, l .few, l .ordered .holds .small (a .place) (a .below))))
+            ∙ lt-ltb (far (s + 1)) (far s)
+            (omega (arith, old-near b, new-far, a .key, a .below, l .few, l .ordered .holds .small (a .place) (a .below))))
         go (no b) =
             rw (after-round n s (omega arith))
             (sooner-far 0 s (omega arith) (omega (arith, few))

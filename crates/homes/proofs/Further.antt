@@ -22,7 +22,10 @@ module _ {position position′ keys keys′ : List ℕ} {n s new q : ℕ} (l : G
   -- a tablet at position t, whose home was h, on this side of the new relay, or past it
   more-near : (t h : ℕ) → h ≤ s → (h ≡ s → t ≤ q) → Home keys n (keyAt t) h → Home keys′ (n + 1) (keyAt t) h
   more-near t h b c o = record {
-    begins = record { within = omega (arith, o .begins .within); passed = λ u d. pass u d (skipped s n u (new-below l) (omega (arith, o .begins .within))) };
+    begins = record {
+      within = omega (arith, o .begins .within);
+      passed = λ u d. pass u d (skipped s n u (new-below l) (omega (arith, o .begins .within)));
+    };
     ahead = λ u d e. more u d (skipped s n u (new-below l) e);
   }
     where
@@ -51,7 +54,10 @@ module _ {position position′ keys keys′ : List ℕ} {n s new q : ℕ} (l : G
 
   more-far : (t h : ℕ) → s ≤ h → (h ≡ s → q < t) → Home keys n (keyAt t) h → Home keys′ (n + 1) (keyAt t) (h + 1)
   more-far t h b c o = record {
-    begins = record { within = omega (arith, o .begins .within); passed = λ u d. pass u d (skipped s n u (new-below l) (omega (arith, o .begins .within))) };
+    begins = record {
+      within = omega (arith, o .begins .within);
+      passed = λ u d. pass u d (skipped s n u (new-below l) (omega (arith, o .begins .within)));
+    };
     ahead = λ u d e. more u d (skipped s n u (new-below l) e);
   }
     where
@@ -99,7 +105,12 @@ module _ {position position′ keys keys′ : List ℕ} {n s new q : ℕ} (l : G
       go (no a) (no b) (yes c) (no d) =
           let e : h ≡ s = omega arith in
           rw (more-here keys′ s (slotAfter n s) t h false e (new-alone l t (omega arith)))
-          (record { slot = h + 1; home = more-far t h (omega arith) (λ _. c) o; enters = round (omega (arith, o .begins .within)) (omega (arith, o .begins .within)) })
+          (record {
+            slot = h + 1;
+            home = more-far t h (omega arith) (λ _. c) o;
+            enters = round (omega (arith, o .begins .within))
+                (omega (arith, o .begins .within));
+          })
       go (no a) (no b) (no c) _ =
           let e : h ≡ s = omega arith in
           rw (more-here keys′ s (slotAfter n s) t h false e (new-first l t small (rw e at o) (omega arith)))

@@ -40,9 +40,11 @@ module _ {position position′ keys keys′ : List ℕ} {n s out : ℕ} (l : Les
       go (at e) = absurd (skip-off s k (l .ordered .holds .apart .one (skip s k) s (skip-below s k n h) (l .below) (e ∙ sym (l .is))))
       go (off i b e) =
           let was : getD keys (skip s k) 0 ≡ getD position′ i 0 * 2 ^ 32 + skip out i =
-          l .ordered .holds .key (skip s k) (skip-below s k n h) ∙ ap (ringKey position) e ∙ ap (λ (q : ℕ). q * 2 ^ 32 + skip out i) (sym (l .positions i b)) in
+          l .ordered .holds .key (skip s k) (skip-below s k n h) ∙ ap (ringKey position) e
+          ∙ ap (λ (q : ℕ). q * 2 ^ 32 + skip out i) (sym (l .positions i b)) in
           let new : getD keys′ k 0 ≡ getD position′ i 0 * 2 ^ 32 + i =
-          l .keys-less .others k h ∙ key-lowered out (getD keys (skip s k) 0) (getD position′ i 0) i (omega (arith, skip-below out i n b, l .few)) was in
+          l .keys-less .others k h ∙ key-lowered out (getD keys (skip s k) 0) (getD position′ i 0) i
+          (omega (arith, skip-below out i n b, l .few)) was in
           record {
             place = i;
             below = b;
@@ -74,7 +76,8 @@ module _ {position position′ keys keys′ : List ℕ} {n s out : ℕ} (l : Les
       up = λ k m d h.
           let a = less-line k (omega arith) in
           let b = less-line m h in
-          let u : getD keys (skip s k) 0 ≤ getD keys (skip s m) 0 = l .ordered .rises .up (skip s k) (skip s m) (skip-up s k m d) (skip-below s m n h) in
+          let u : getD keys (skip s k) 0 ≤ getD keys (skip s m) 0 =
+          l .ordered .rises .up (skip s k) (skip s m) (skip-up s k m d) (skip-below s m n h) in
           rises k m a b u;
     };
   }
@@ -159,7 +162,8 @@ module _ {position position′ keys keys′ : List ℕ} {n s out : ℕ} (l : Les
         home = less-far q (o .slot) d (o .home);
         enters = itself (rw (lt-ltb s x (omega arith)) (omega arith));
       }
-      go (itself e) (no d) = record { slot = o .slot; home = less-near q (o .slot) (omega arith) (o .home); enters = itself (rw (le-ltb s x (omega arith)) e) }
+      go (itself e) (no d) =
+          record { slot = o .slot; home = less-near q (o .slot) (omega arith) (o .home); enters = itself (rw (le-ltb s x (omega arith)) e) }
       go (round e z) (yes d) = record {
         slot = o .slot - 1;
         home = less-far q (o .slot) d (o .home);

@@ -135,7 +135,8 @@ module _ {position position′ keys keys′ : List ℕ} {n s new q : ℕ} (l : G
               → Skip new (w .place) → getD keys′ (skip s k) 0 ≤ getD keys′ (skip s m) 0
           between z v w (low g a) (low i b) = omega (arith, v .key, v .raised, w .key, w .raised, l .ordered .rises .up k m z c)
           between z v w (low g a) (high i b) = omega (arith, v .key, v .raised, w .key, w .raised, l .ordered .rises .up k m z c)
-          between z v w (high g a) (low i b) = omega (arith, v .key, v .raised, w .key, w .raised, l .ordered .rises .up k m z c, v .below, w .below, l .few)
+          between z v w (high g a) (low i b) =
+              omega (arith, v .key, v .raised, w .key, w .raised, l .ordered .rises .up k m z c, v .below, w .below, l .few)
           between z v w (high g a) (high i b) = omega (arith, v .key, v .raised, w .key, w .raised, l .ordered .rises .up k m z c)
 
           both : (v : Line position keys keys′ n s new k) (w : Line position keys keys′ n s new m) → Skip s k → Skip s m

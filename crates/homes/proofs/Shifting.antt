@@ -42,7 +42,8 @@ unmet-end h u t = u .none (t .slot) (omega (arith, t .below)) (t .is)
 pub keys-less-none : {before after : List ℕ} (s at : ℕ) → length after ≡ mostRelays → KeysLess 0 s at before after
 keys-less-none s at e = record { size = e; others = λ k h. absurd (not-suc-le-zero h) }
 
-pub keys-less-more : {before after : List ℕ} {k s at v : ℕ} → KeysLess k s at before after → k < mostRelays → v ≡ lowered at (getD before (skip s k) 0)
+pub keys-less-more : {before after : List ℕ} {k s at v : ℕ} → KeysLess k s at before after → k < mostRelays
+    → v ≡ lowered at (getD before (skip s k) 0)
     → KeysLess (k + 1) s at before (set after k v)
 keys-less-more {before} {after} {k} {s} {at} o h e = record {
   size = simp length-set (o .size);
@@ -62,7 +63,8 @@ pub record Raising (k s at : ℕ) (before after : List ℕ) : Type 0 where
 pub raising-none : {before after : List ℕ} (s at : ℕ) → length after ≡ mostRelays → Raising 0 s at before after
 raising-none s at e = record { size = e; others = λ k h. absurd (not-suc-le-zero h) }
 
-pub raising-more : {before after : List ℕ} {k s at i v : ℕ} → Raising k s at before after → i ≡ skip s k → i < mostRelays → v ≡ raised at (getD before k 0)
+pub raising-more : {before after : List ℕ} {k s at i v : ℕ} → Raising k s at before after → i ≡ skip s k → i < mostRelays
+    → v ≡ raised at (getD before k 0)
     → Raising (k + 1) s at before (set after i v)
 raising-more {before} {after} {k} {s} {at} {i} {v} o ei h e = record {
   size = simp length-set (o .size);
@@ -70,7 +72,8 @@ raising-more {before} {after} {k} {s} {at} {i} {v} o ei h e = record {
       (ap (λ (j : ℕ). getD (set after i v) j 0) (sym ei) ∙ getD-set-same after i v 0 (omega (arith, o .size)) ∙ e);
 }
 
-pub raising-end : {before after : List ℕ} {n k s at x : ℕ} → n ≤ k → s < mostRelays → Raising k s at before after → KeysMore n s at x before (set after s x)
+pub raising-end : {before after : List ℕ} {n k s at x : ℕ} → n ≤ k → s < mostRelays → Raising k s at before after
+    → KeysMore n s at x before (set after s x)
 raising-end {after = after} {s = s} {x = x} h b o = record {
   size = simp length-set (o .size);
   others = λ l d. getD-set-other after s (skip s l) x 0 (skip-off s l) ∙ o .others l (omega arith);
@@ -87,7 +90,8 @@ pub moved-more : (f : ℕ → ℕ → ℕ) {j v : ℕ} {before after : List ℕ}
 moved-more f {j} {v} {before} {after} o h e = record {
   size = simp length-set (o .size);
   moved = λ t d.
-      stored (λ t x. x ≡ f t (getD before t 0)) after j (omega (arith, o .size)) (e ∙ ap (f j) (o .rest j (omega arith))) t (λ z. o .moved t (omega arith));
+      stored (λ t x. x ≡ f t (getD before t 0)) after j (omega (arith, o .size)) (e ∙ ap (f j) (o .rest j (omega arith))) t
+      (λ z. o .moved t (omega arith));
   rest = λ t d. getD-set-other after j t v 0 (λ z. omega arith) ∙ o .rest t (omega arith);
 }
 

@@ -35,16 +35,23 @@ position-at p rs n i h l = array-at (λ k. p .relayAt (relayNumber rs k)) n i h 
 byte-home : {keys : List ℕ} {n q x : ℕ} → n ≤ mostRelays → HomeByte keys n q x → HomeAt keys n q x
 byte-home {n = n} {x = x} few b = elim (decLt (b .slot) mostRelays) [
   | yes d ↦ record { slot = b .slot; home = b .home; enters = itself (omega (arith, b .is)) }
-  | no d ↦ record { slot = b .slot; home = b .home; enters = round (omega (arith, b .home .begins .within)) (omega (arith, b .is, b .home .begins .within)) }
+  | no d ↦ record {
+    slot = b .slot;
+    home = b .home;
+    enters = round (omega (arith, b .home .begins .within))
+        (omega (arith, b .is, b .home .begins .within));
+  }
 ]
 
-module _ {p : Positions} {rs ts : List ℕ} {n m : ℕ} {keys room next last home slot : List ℕ} (few : n ≤ mostRelays) (v : Surveyed p rs ts n m keys room next last home slot) where
+module _ {p : Positions} {rs ts : List ℕ} {n m : ℕ} {keys room next last home slot : List ℕ} (few : n ≤ mostRelays)
+    (v : Surveyed p rs ts n m keys room next last home slot) where
   pub surveyed-homes : ((t : ℕ) → t < m → p .tabletAt (tabletNumber ts t) < 2 ^ 32) → Homes p rs ts n m keys home
   surveyed-homes small = record { ordered = v .ordered; size = v .seats .homes; small = small; from = λ t h. byte-home few (v .seats .from t h) }
 
 -- ---- one relay taken out
 
-pub taken-homes : {p : Positions} {rs own ts : List ℕ} {n m at : ℕ} {keys home : List ℕ} {r : Around} → n < mostRelays → Homes p rs ts (n + 1) m keys home
+pub taken-homes : {p : Positions} {rs own ts : List ℕ} {n m at : ℕ} {keys home : List ℕ} {r : Around} → n < mostRelays
+    → Homes p rs ts (n + 1) m keys home
     → TakenOut n m at keys home r → ((i : ℕ) → i < n → relayNumber own i ≡ relayNumber rs (skip at i)) → Homes p own ts n m (r .keys) (r .home)
 taken-homes {p} {rs} {own} {ts} {n} {m} {at} {keys} {home} {r} few o t same = record {
   ordered = less-ordered lessened;
@@ -61,12 +68,14 @@ taken-homes {p} {rs} {own} {ts} {n} {m} {at} {keys} {home} {r} few o t same = re
       is = t .is;
       keys-less = t .shorter;
       positions = λ i h.
-          position-at p own n i (omega arith) h ∙ ap (p .relayAt) (same i h) ∙ sym (position-at p rs (n + 1) (skip at i) (omega arith) (skip-below at i n h));
+          position-at p own n i (omega arith) h ∙ ap (p .relayAt) (same i h)
+          ∙ sym (position-at p rs (n + 1) (skip at i) (omega arith) (skip-below at i n h));
     }
 
 -- ---- one relay put in
 
-pub put-homes : {p : Positions} {rs own ts : List ℕ} {n m at q : ℕ} {keys room next last home slot : List ℕ} {r : Around} → n < mostRelays → at ≤ n → q < 2 ^ 32
+pub put-homes : {p : Positions} {rs own ts : List ℕ} {n m at q : ℕ} {keys room next last home slot : List ℕ} {r : Around} → n < mostRelays
+    → at ≤ n → q < 2 ^ 32
     → Surveyed p rs ts n m keys room next last home slot → PutIn p ts n m at q keys home r
     → ((j : ℕ) → j < m → p .tabletAt (tabletNumber ts j) < 2 ^ 32) → ((i : ℕ) → i < n → relayNumber own (skip at i) ≡ relayNumber rs i)
     → q ≡ p .relayAt (relayNumber own at) → Homes p own ts (n + 1) m (r .keys) (r .home)
@@ -74,7 +83,8 @@ put-homes {p} {rs} {own} {ts} {n} {m} {at} {q} {keys} {home = home} {r = r} few 
   ordered = more-ordered grown;
   size = t .moved .size ∙ v .seats .homes;
   small = smalls;
-  from = λ j h. rw (t .moved .moved j h) (more-home grown (p .tabletAt (tabletNumber ts j)) (smalls j h) (getD home j 0) (own-home (v .seats .from j h)));
+  from = λ j h. rw (t .moved .moved j h)
+      (more-home grown (p .tabletAt (tabletNumber ts j)) (smalls j h) (getD home j 0) (own-home (v .seats .from j h)));
 }
   where
     grown : Grown (relayPositions p rs n) (relayPositions p own (n + 1)) keys (r .keys) n (t .slot) at q
@@ -86,7 +96,8 @@ put-homes {p} {rs} {own} {ts} {n} {m} {at} {q} {keys} {home = home} {r = r} few 
       from = t .from;
       keys-more = t .longer;
       positions = λ i h.
-          position-at p own (n + 1) (skip at i) (omega arith) (skip-below at i n h) ∙ ap (p .relayAt) (same i h) ∙ sym (position-at p rs n i (omega arith) h);
+          position-at p own (n + 1) (skip at i) (omega arith) (skip-below at i n h) ∙ ap (p .relayAt) (same i h)
+          ∙ sym (position-at p rs n i (omega arith) h);
       newcomer = position-at p own (n + 1) at (omega arith) (omega arith) ∙ sym here;
     }
 
@@ -111,7 +122,8 @@ ordered-same {keys = keys} e o = record {
   rises = o .rises;
 }
 
-pub kept-homes : {p : Positions} {rs own ts : List ℕ} {n m : ℕ} {keys home : List ℕ} → n ≤ mostRelays → ((i : ℕ) → i < n → relayNumber own i ≡ relayNumber rs i)
+pub kept-homes : {p : Positions} {rs own ts : List ℕ} {n m : ℕ} {keys home : List ℕ} → n ≤ mostRelays
+    → ((i : ℕ) → i < n → relayNumber own i ≡ relayNumber rs i)
     → Homes p rs ts n m keys home → Homes p own ts n m keys home
 kept-homes {p} {rs} {own} {n = n} few same o = record {
   ordered = ordered-same (λ i h. position-at p own n i few h ∙ ap (p .relayAt) (same i h) ∙ sym (position-at p rs n i few h)) (o .ordered);

@@ -14,7 +14,8 @@ use Rattle.home.specs.Home.{keyAt}
 use Rattle.nearest.specs.Nearest.{inSlots, Nearest, itself, round, HomeAt}
 use Rattle.nearest.proofs.Nearer.{behind-is}
 
-module _ {position keys : List ℕ} {n t k : ℕ} (few : n ≤ mostRelays) (ring : Ordered position n keys) (below : t < 2 ^ 32) (o : Nearest keys n t k) where
+module _ {position keys : List ℕ} {n t k : ℕ} (few : n ≤ mostRelays) (ring : Ordered position n keys) (below : t < 2 ^ 32)
+    (o : Nearest keys n t k) where
   rises : KeysRise n keys
   rises = ring .rises
 
@@ -37,7 +38,7 @@ module _ {position keys : List ℕ} {n t k : ℕ} (few : n ≤ mostRelays) (ring
         home = record {
           begins = record {
             within = omega (arith, o .inside);
-            passed = λ l c. omega (arith, behind l (omega (arith, o .inside)), rises .up l k c (omega (arith, o .inside)), small k (omega (arith, o .inside)));
+            passed = λ l c. let b : k < n = omega (arith, o .inside) in omega (arith, behind l (omega arith), rises .up l k c b, small k b);
           };
           ahead = λ l c d. onward l c d (decLt k l);
         };

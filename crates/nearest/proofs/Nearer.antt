@@ -51,15 +51,21 @@ module _ {keys : List ℕ} {n t : ℕ} where
     some = omega arith;
     within = omega arith;
     far = e;
-    nearest = record { inside = omega arith; first = λ l c. let z : l ≡ 0 = omega arith in rw z (behind-from keys t 0 0 (omega arith) (omega arith) (omega arith)) };
+    nearest = record {
+      inside = omega arith;
+      first = λ l c. let z : l ≡ 0 = omega arith in rw z
+          (behind-from keys t 0 0 (omega arith) (omega arith) (omega arith));
+    };
   }
 
-  module _ (few : n ≤ mostRelays) {first least k : ℕ} (o : Scanned keys n t first least k) (on : k < n) (d : ℕ) (e : d ≡ distance (inSlots keys) t k) where
+  module _ (few : n ≤ mostRelays) {first least k : ℕ} (o : Scanned keys n t first least k) (on : k < n) (d : ℕ)
+      (e : d ≡ distance (inSlots keys) t k) where
     inside : first < k
     inside = omega (arith, o .some, o .nearest .inside)
 
     pub scanned-closer : d < least → Scanned keys n t k d (k + 1)
-    scanned-closer h = record { some = omega arith; within = omega arith; far = e; nearest = record { inside = omega arith; first = λ l c. go l c (decLt l k) } }
+    scanned-closer h =
+        record { some = omega arith; within = omega arith; far = e; nearest = record { inside = omega arith; first = λ l c. go l c (decLt l k) } }
       where
         go : (l : ℕ) → l < k + 1 → Dec (l < k) → sooner (inSlots keys) t l k ≡ false
         go l c (yes a) =
@@ -77,7 +83,8 @@ module _ {keys : List ℕ} {n t : ℕ} where
       where
         go : (l : ℕ) → l < k + 1 → Dec (l < k) → sooner (inSlots keys) t l first ≡ false
         go l c (yes a) = o .nearest .first l a
-        go l c (no a) = let z : l ≡ k = omega arith in rw z (behind-from keys t first k (omega (arith, inside)) (omega arith) (omega (arith, o .far, inside)))
+        go l c (no a) =
+            let z : l ≡ k = omega arith in rw z (behind-from keys t first k (omega (arith, inside)) (omega arith) (omega (arith, o .far, inside)))
 
   pub scanned-end : {first least k : ℕ} → n ≤ k → Scanned keys n t first least k → Nearest keys n t first
   scanned-end h o = record { inside = omega (arith, o .nearest .inside, o .within); first = λ l c. o .nearest .first l (omega arith) }

@@ -33,7 +33,20 @@ use Rattle.look.proofs.Stays.{tablets-whole, tablets-zeros, relays-stay}
 use Rattle.chain.specs.Chain.{From, Chained}
 use Rattle.newcomer.specs.declared.Enrolment.{Enrolment}
 use Rattle.newcomer.specs.Newcomer.{newcomerRefusal, Seeks, othersOf, Prepared}
-use Rattle.newcomer.proofs.Working.{number-bars, shut-small, open-enough, stop-inside, in-ring, home-inside, steps-passed, others-moves, others-above, first-relay, others-after, length-others}
+use Rattle.newcomer.proofs.Working.{
+  number-bars,
+  shut-small,
+  open-enough,
+  stop-inside,
+  in-ring,
+  home-inside,
+  steps-passed,
+  others-moves,
+  others-above,
+  first-relay,
+  others-after,
+  length-others,
+}
 
 -- a test that came out false
 pub test-false : {b : Bool} (r : Refusal) → b ≡ isDone r → not b ≡ true → isDone r ≡ false
@@ -69,7 +82,8 @@ pub record Asked (s : ℕ) (rs ts : List ℕ) (n m : ℕ) (v : Survey) (t : Tabl
   pub known : there ≡ has (tabletsIn ts m) (t .0)
   pub all : places ≡ tabletPlaces ts
 
-module _ {s : ℕ} {rs ts : List ℕ} {n m : ℕ} {v : Survey} {t : TabletNumber} {at : ℕ} {there : Bool} {places : ℕ} (a : Asked s rs ts n m v t at there places) where
+module _ {s : ℕ} {rs ts : List ℕ} {n m : ℕ} {v : Survey} {t : TabletNumber} {at : ℕ} {there : Bool} {places : ℕ}
+    (a : Asked s rs ts n m v t at there places) where
   abbrev b : Start s rs ts n m v
   b = a .start
 
@@ -98,7 +112,13 @@ module _ {s : ℕ} {rs ts : List ℕ} {n m : ℕ} {v : Survey} {t : TabletNumber
 
     module _ (o : opens ≡ true) where
       pub turn-from : From (positions s) rs ts n m (v .keys) (v .last) h stop
-      turn-from = record { rises = rises; ordered = b .surveyed .ordered; greatest = b .surveyed .greatest; home = home-inside b t k o; inside = stop-inside b t k o }
+      turn-from = record {
+        rises = rises;
+        ordered = b .surveyed .ordered;
+        greatest = b .surveyed .greatest;
+        home = home-inside b t k o;
+        inside = stop-inside b t k o;
+      }
 
       module _ {c d : ℕ} {place seat : List ℕ} (w : Chained rs ts n m (v .keys) h stop (t .0) c d place seat) where
         small : positions s .tabletAt (t .0) < 2 ^ 32
@@ -114,10 +134,12 @@ module _ {s : ℕ} {rs ts : List ℕ} {n m : ℕ} {v : Survey} {t : TabletNumber
             (list-refused s rs ts ms (Enrol t) b (numbers-fine ms) (open-enough b t k o)
             (unfold lentOf in (omega (arith, ap length the-moves, length-others (t .0) rs ts place seat c))))
 
-        pub whole-plan : {ms : List ℕ} (p : Enrolment) → p .refusal ≡ Done → p .m ≡ m → p .at ≡ at → p .chain ≡ record { others = c; steps = d; place = place; seat = seat } → c ≤ length ms / 3 → Prepared s rs ts ms t p
+        pub whole-plan : {ms : List ℕ} (p : Enrolment) → p .refusal ≡ Done → p .m ≡ m → p .at ≡ at
+            → p .chain ≡ record { others = c; steps = d; place = place; seat = seat } → c ≤ length ms / 3 → Prepared s rs ts ms t p
         whole-plan {ms} p er em ea ec l =
             record {
-              refusal = er ∙ sym (all-passed s rs ts ms (Enrol t) b (numbers-fine ms) (open-enough b t k o) (unfold lentOf in (omega (arith, ap length the-moves, length-others (t .0) rs ts place seat c))));
+              refusal = er ∙ sym (all-passed s rs ts ms (Enrol t) b (numbers-fine ms) (open-enough b t k o)
+                  (unfold lentOf in (omega (arith, ap length the-moves, length-others (t .0) rs ts place seat c))));
               worked = λ _. rw (em, ea, ec)
                   (record {
                     seatable = record {
@@ -144,8 +166,11 @@ module _ {s : ℕ} {rs ts : List ℕ} {n m : ℕ} {v : Survey} {t : TabletNumber
           where
             above-at : (i : ℕ) → at ≤ i → i < m → t .0 < tabletNumber ts i
             above-at i l q =
-                let ne : tabletNumber ts i ≡ t .0 → ⊥ = λ e. true-false (sym (has-place (tabletNumber ts) (tabletRelay ts) m (t .0) i q e) ∙ sym (a .known) ∙ free .new) in
+                let ne : tabletNumber ts i ≡ t .0 → ⊥ =
+                λ e. true-false (sym (has-place (tabletNumber ts) (tabletRelay ts) m (t .0) i q e) ∙ sym (a .known) ∙ free .new) in
                 omega (arith, a .spot .from i l q)
 
             relays-still : rs ≡ relayTable (length rs) (Calls.after (positions s) (ringOf rs ts) (Enrol t))
-            relays-still = relays-stay b (Calls.after (positions s) (ringOf rs ts) (Enrol t)) (unfold Calls.after edited in (ap (λ (g : Ring). g .relays) (start-ring b)))
+            relays-still =
+                relays-stay b (Calls.after (positions s) (ringOf rs ts) (Enrol t))
+                (unfold Calls.after edited in (ap (λ (g : Ring). g .relays) (start-ring b)))

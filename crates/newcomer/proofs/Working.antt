@@ -58,7 +58,8 @@ use Rattle.newcomer.proofs.Homing.{order-home}
 total-zero : (f b : ℕ → ℕ) (n : ℕ) → ((i : ℕ) → i < n → b i ≡ 0) → total (places f b n) ≡ 0
 total-zero f b zero h = unfold places total in refl
 total-zero f b (suc n) h =
-    ap (λ (k : ℕ). total (places f b k)) (sym (add-one n)) ∙ total-more f b n ∙ omega (arith, total-zero f b n (λ i c. h i (omega arith)), h n (omega arith))
+    ap (λ (k : ℕ). total (places f b k)) (sym (add-one n)) ∙ total-more f b n
+    ∙ omega (arith, total-zero f b n (λ i c. h i (omega arith)), h n (omega arith))
 
 total-least : (f b : ℕ → ℕ) (n i : ℕ) → i < n → b i ≤ total (places f b n)
 total-least f b zero i c = absurd (omega arith)
@@ -122,7 +123,9 @@ module _ {s : ℕ} {rs ts : List ℕ} {n m : ℕ} {v : Survey} (b : Start s rs t
 
     after-one : length (edited (ringOf rs ts) (Enrol t) .tablets) ≡ suc m
     unfolding edited
-    after-one = ap (λ (g : Ring). length (insert x 0 (g .tablets))) (start-ring b) ∙ length-insert x 0 (tabletsIn ts m) ∙ ap suc (length-places (tabletNumber ts) (tabletRelay ts) m)
+    after-one =
+        ap (λ (g : Ring). length (insert x 0 (g .tablets))) (start-ring b) ∙ length-insert x 0 (tabletsIn ts m)
+        ∙ ap suc (length-places (tabletNumber ts) (tabletRelay ts) m)
 
     limits-are : total (edited (ringOf rs ts) (Enrol t) .relays) ≡ total (relaysIn rs n)
     unfolding edited
@@ -135,7 +138,9 @@ module _ {s : ℕ} {rs ts : List ℕ} {n m : ℕ} {v : Survey} (b : Start s rs t
         shut i c =
             let sl = b .surveyed .ordered .holds .every i c in
             split (ltb 0 (getD room i 0))
-            (λ z. absurd (true-false (sym (both-true (k .leads .opens (sl .slot) (sl .below) (unfold slotRoom in (rw (sl .is) (ltb-true 0 (getD room i 0) z)))) (omega arith)) ∙ sym (k .opens-is) ∙ e)))
+            (λ z. absurd (true-false
+            (sym (both-true (k .leads .opens (sl .slot) (sl .below) (unfold slotRoom in (rw (sl .is) (ltb-true 0 (getD room i 0) z))))
+            (omega arith)) ∙ sym (k .opens-is) ∙ e)))
             (λ z. omega (arith, ltb-false 0 (getD room i 0) z))
           where
             both-true : 0 < slotRoom keys room stop → 0 < n → (ltb 0 n && ltb 0 (slotRoom keys room stop)) ≡ true
@@ -156,7 +161,9 @@ module _ {s : ℕ} {rs ts : List ℕ} {n m : ℕ} {v : Survey} (b : Start s rs t
 
       room-left : m < total (relaysIn rs n)
       room-left =
-          let z : getD room (slotRelay keys stop) 0 ≤ total (roomed rs room n) = unfold roomed in (total-least (relayNumber rs) (λ i. getD room i 0) n (slotRelay keys stop) (b .surveyed .ordered .holds .relay stop stop-inside)) in
+          let z : getD room (slotRelay keys stop) 0 ≤ total (roomed rs room n) =
+          unfold roomed in (total-least (relayNumber rs) (λ i. getD room i 0) n (slotRelay keys stop)
+          (b .surveyed .ordered .holds .relay stop stop-inside)) in
           let y : 0 < getD room (slotRelay keys stop) 0 = unfold slotRoom in stop-room in
           omega (arith, left)
 
@@ -175,7 +182,8 @@ module _ {s : ℕ} {rs ts : List ℕ} {n m : ℕ} {v : Survey} (b : Start s rs t
       d = stepsTo n h stop
 
       -- a relay of the round has room exactly where its slot has
-      room-slot : (i : ℕ) → i < n → hasRoom (tabletsIn ts m) (entry (roundNumber rs keys n h i) (roundLimit rs keys n h i)) ≡ ltb 0 (slotRoom keys room (slotAt n h i))
+      room-slot : (i : ℕ) → i < n → hasRoom (tabletsIn ts m) (entry (roundNumber rs keys n h i) (roundLimit rs keys n h i)) ≡ ltb 0
+          (slotRoom keys room (slotAt n h i))
       unfolding hasRoom roundNumber roundLimit slotRoom
       room-slot i c =
           let j : ℕ = slotRelay keys (slotAt n h i) in
@@ -195,7 +203,8 @@ module _ {s : ℕ} {rs ts : List ℕ} {n m : ℕ} {v : Survey} (b : Start s rs t
           (λ s. absurd (omega (
             arith,
             steps-slot n h in-ring i ci,
-            ahead-steps n h in-ring stop (slotAt n h i) stop-inside (slot-inside n h in-ring i ci) (k .leads .ahead (slotAt n h i) (slot-inside n h in-ring i ci) (ltb-true 0 (slotRoom keys room (slotAt n h i)) s)),
+            ahead-steps n h in-ring stop (slotAt n h i) stop-inside (slot-inside n h in-ring i ci)
+                (k .leads .ahead (slotAt n h i) (slot-inside n h in-ring i ci) (ltb-true 0 (slotRoom keys room (slotAt n h i)) s)),
           )))
           (λ s. s)
 
@@ -217,12 +226,14 @@ module _ {s : ℕ} {rs ts : List ℕ} {n m : ℕ} {v : Survey} (b : Start s rs t
         the-first : first (hasRoom (tabletsIn ts m)) (order p x (relaysIn rs n)) ≡ some f
         the-first =
             ap (first (hasRoom (tabletsIn ts m))) the-order
-            ∙ first-places (hasRoom (tabletsIn ts m)) (roundNumber rs keys n h) (roundLimit rs keys n h) n d (steps-inside n h in-ring stop stop-inside) none-before room-there
+            ∙ first-places (hasRoom (tabletsIn ts m)) (roundNumber rs keys n h) (roundLimit rs keys n h) n d
+            (steps-inside n h in-ring stop stop-inside) none-before room-there
 
         the-fulls : upTo (hasRoom (tabletsIn ts m)) (order p x (relaysIn rs n)) ≡ round rs keys n h d
         the-fulls =
             ap (upTo (hasRoom (tabletsIn ts m))) the-order
-            ∙ upTo-places (hasRoom (tabletsIn ts m)) (roundNumber rs keys n h) (roundLimit rs keys n h) n d (steps-inside n h in-ring stop stop-inside) none-before room-there
+            ∙ upTo-places (hasRoom (tabletsIn ts m)) (roundNumber rs keys n h) (roundLimit rs keys n h) n d
+            (steps-inside n h in-ring stop stop-inside) none-before room-there
 
         module _ (some-number : 0 < x) (new : has (tabletsIn ts m) x ≡ false) where
           not-in : In x (numbers (tabletsIn ts m)) → ⊥
@@ -231,7 +242,8 @@ module _ {s : ℕ} {rs ts : List ℕ} {n m : ℕ} {v : Survey} (b : Start s rs t
           many : length (tabletsIn ts m) < total (relaysIn rs n)
           many = omega (arith, length-places (tabletNumber ts) (tabletRelay ts) m, room-left)
 
-          abbrev chain : Chain (tabletsIn ts m) x (seats (turn (tabletsIn ts m) (newcomer x) (upTo (hasRoom (tabletsIn ts m)) (order p x (relaysIn rs n)))) (f .number))
+          abbrev chain : Chain (tabletsIn ts m) x
+              (seats (turn (tabletsIn ts m) (newcomer x) (upTo (hasRoom (tabletsIn ts m)) (order p x (relaysIn rs n)))) (f .number))
           chain = enrol-chain p ring right t some-number not-in many f the-first
 
           pub steps-passed : passed p (ringOf rs ts) (Enrol t) ≡ d
@@ -259,15 +271,18 @@ module _ {s : ℕ} {rs ts : List ℕ} {n m : ℕ} {v : Survey} (b : Start s rs t
             the-seat = ap firstNew the-chain
 
             pub others-moves : moves p (ringOf rs ts) (Enrol t) ≡ othersOf x rs ts place seat c
-            others-moves = ap (λ (g : Ring). moves p g (Enrol t)) (start-ring b) ∙ enrol-moves p ring right t some-number not-in many f the-first ∙ the-rest
+            others-moves =
+                ap (λ (g : Ring). moves p g (Enrol t)) (start-ring b) ∙ enrol-moves p ring right t some-number not-in many f the-first ∙ the-rest
 
             pub others-above : Rising x (tabletsOf (othersOf x rs ts place seat c))
             others-above = subst (λ (z : List Move). Rising x (tabletsOf z)) the-rest (chain .up)
 
             pub first-relay : relayOf p (ringOf rs ts) (Enrol t) ≡ relayNumber rs (getD seat 0 0)
-            first-relay = ap (λ (g : Ring). relayOf p g (Enrol t)) (start-ring b) ∙ enrol-relay p ring right t some-number not-in many f the-first ∙ the-seat
+            first-relay =
+                ap (λ (g : Ring). relayOf p g (Enrol t)) (start-ring b) ∙ enrol-relay p ring right t some-number not-in many f the-first ∙ the-seat
 
-            pub others-after : Calls.after p (ringOf rs ts) (Enrol t) .tablets ≡ seated (othersOf x rs ts place seat c) (insert x (relayNumber rs (getD seat 0 0)) (tabletsIn ts m))
+            pub others-after : Calls.after p (ringOf rs ts) (Enrol t) .tablets ≡ seated (othersOf x rs ts place seat c)
+                (insert x (relayNumber rs (getD seat 0 0)) (tabletsIn ts m))
             others-after =
                 ap (λ (g : Ring). Calls.after p g (Enrol t) .tablets) (start-ring b) ∙ enrol-after p ring right t some-number not-in many f the-first
                 ∙ ap (λ (z : List Move). seated z (insert x (chain .seat) (tabletsIn ts m))) the-rest

@@ -69,7 +69,8 @@ leads-past {n = n} o = record { inside = o .inside; opens = o .opens; ahead = λ
     on z (turn a b) = absurd (not-suc-le-zero b)
     on z (past a b) = absurd (not-suc-le-zero b)
 
-module _ {p : Positions} {rs ts : List ℕ} {n m j : ℕ} {keys home room next relay : List ℕ} {h k : ℕ} (t : Turn p rs ts n m j keys home room next relay h k) where
+module _ {p : Positions} {rs ts : List ℕ} {n m j : ℕ} {keys home room next relay : List ℕ} {h k : ℕ}
+    (t : Turn p rs ts n m j keys home room next relay h k) where
   -- tablet j's home
   start : HomeAt keys n (p .tabletAt (tabletNumber ts j)) (getD home j 0)
   start = t .homes .from j (t .more)
@@ -124,8 +125,10 @@ module _ {p : Positions} {rs ts : List ℕ} {n m j : ℕ} {keys home room next r
     row = row;
     refilled = record {
       size = simp length-set (o .size);
-      below = λ x c. stored (λ _ y. y < n) relay j (omega (arith, o .size, turn-below)) (omega (arith, e, turn-relay, first .below)) x (λ d. o .below x (omega arith));
-      is = λ x c. stored (λ x y. y ≡ relayFor p rs ts n x) relay j (omega (arith, o .size, turn-below)) (e ∙ turn-relay) x (λ d. o .is x (omega arith));
+      below = λ x c. stored (λ _ y. y < n) relay j (omega (arith, o .size, turn-below)) (omega (arith, e, turn-relay, first .below)) x
+          (λ d. o .below x (omega arith));
+      is = λ x c. stored (λ x y. y ≡ relayFor p rs ts n x) relay j (omega (arith, o .size, turn-below)) (e ∙ turn-relay) x
+          (λ d. o .is x (omega arith));
     };
   }
     where

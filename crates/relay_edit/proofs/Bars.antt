@@ -52,6 +52,7 @@ module _ {s : ℕ} {rs ts : List ℕ} {n m : ℕ} {v : Survey} (b : Start s rs t
   unfolding wrongNumbers lentOf missing
   remove-numbers = rw (start-ring b)
 
-  pub set-numbers : (limit : ℕ) → firstBar (wrongNumbers (lentOf s rs ts ms) (ringOf rs ts) (Set r limit)) ≡ setRefusal (r .0) limit (has (relaysIn rs n) (r .0))
+  pub set-numbers : (limit : ℕ) → firstBar (wrongNumbers (lentOf s rs ts ms) (ringOf rs ts) (Set r limit)) ≡ setRefusal (r .0) limit
+      (has (relaysIn rs n) (r .0))
   unfolding wrongNumbers lentOf setRefusal
   set-numbers limit = rw (start-ring b)

@@ -23,7 +23,12 @@ pub record Copying (rs own : List ℕ) (i : ℕ) : Type 0 where
   pub rest : (k : ℕ) → i ≤ k → getD own k 0 ≡ 0
 
 zeros : (m k : ℕ) → _≡_ {A = ℕ} (getD (replicate m 0) k 0) 0
-zeros m k = elim (decLt k m) [ yes h ↦ getD-replicate m k 0 0 h | no h ↦ List·getD-eq-default (replicate m 0) 0 (omega (arith, length-replicate {A = ℕ} m 0)) ]
+zeros m k =
+    elim (decLt k m) [
+      | yes h ↦ getD-replicate m k 0 0 h
+      | no h ↦ List·getD-eq-default (replicate m 0) 0
+          (omega (arith, length-replicate {A = ℕ} m 0))
+    ]
 
 pub copying-none : (rs : List ℕ) → Copying rs (replicate ownNumbers 0) 0
 copying-none rs = record { size = length-replicate {A = ℕ} ownNumbers 0; same = λ k l. absurd (not-suc-le-zero l); rest = λ k l. zeros ownNumbers k }

@@ -81,7 +81,8 @@ module _ {s : ℕ} {rs ts : List ℕ} {x : ℕ} {f : Found} (found : Finds s rs 
 -- ---- the refusals 3 to 7, once the tables are found right
 
 module _ {s : ℕ} {rs ts : List ℕ} {x n m at : ℕ} {there : Bool} {around : Around} (stands : Stands s rs ts x n m at there around) where
-  module _ {c : Call} (a : About c x) {w : Refusal} (why : (ms : List ℕ) → firstBar (wrongNumbers (lentOf s rs ts ms) (ringOf rs ts) c) ≡ w) {d : Bool} (ed : d ≡ isDone w) {e : Edit} (ee : e .refusal ≡ w) where
+  module _ {c : Call} (a : About c x) {w : Refusal} (why : (ms : List ℕ) → firstBar (wrongNumbers (lentOf s rs ts ms) (ringOf rs ts) c) ≡ w)
+      {d : Bool} (ed : d ≡ isDone w) {e : Edit} (ee : e .refusal ≡ w) where
     numbers-refused : not d ≡ true → Edits s rs ts c x e
     numbers-refused h =
         let z : isDone w ≡ false = sym ed ∙ not-true _ h in
@@ -128,7 +129,8 @@ set-open x limit there h =
 
 -- ---- the three calls
 
-module _ {s : ℕ} {rs ts : List ℕ} {n m at : ℕ} {there : Bool} {around : Around} (r : RelayNumber) (stands : Stands s rs ts (r .0) n m at there around) {w : Refusal} {d : Bool} (ed : d ≡ isDone w) where
+module _ {s : ℕ} {rs ts : List ℕ} {n m at : ℕ} {there : Bool} {around : Around} (r : RelayNumber)
+    (stands : Stands s rs ts (r .0) n m at there around) {w : Refusal} {d : Bool} (ed : d ≡ isDone w) where
   module _ (limit : ℕ) {places : ℕ} (ep : places ≡ relayPlaces rs) (ew : w ≡ addRefusal (r .0) limit there (leb places n)) where
     add-why : (ms : List ℕ) → firstBar (wrongNumbers (lentOf s rs ts ms) (ringOf rs ts) (Add r limit)) ≡ w
     add-why ms = add-numbers (stands .start) ms r limit ∙ sym (ew ∙ ap₂ (addRefusal (r .0) limit) (stands .there-is) (ap (λ (k : ℕ). leb k n) ep))
@@ -155,7 +157,8 @@ module _ {s : ℕ} {rs ts : List ℕ} {n m at : ℕ} {there : Bool} {around : Ar
           → WroteRelays own (e .relays) (n + 1) (insert (r .0) limit (relaysIn own n)) → {q : ℕ} → q ≡ positions s .relayAt (r .0) → q < 2 ^ 32
           → PutIn (positions s) ts n m at q (around .keys) (around .home) (e .around) → Edits s rs ts (Add r limit) (r .0) e
       add-passed a small ee en em o eq lq t =
-          numbers-passed stands a add-why ed ee h (unfold subject in small) em (rw en (insert-written stands cp (may-add .0) (may-add .1) r limit refl o))
+          numbers-passed stands a add-why ed ee h (unfold subject in small) em
+          (rw en (insert-written stands cp (may-add .0) (may-add .1) r limit refl o))
           (rw en (put-around stands cp limit add-few (add-fits .1) o t eq lq))
 
   module _ (ew : w ≡ missing (r .0) there) where
@@ -176,7 +179,8 @@ module _ {s : ℕ} {rs ts : List ℕ} {n m at : ℕ} {there : Bool} {around : Ar
           → TookOut relayNumber relayLimit own (e .relays) (n - 1) (delete (relayNumber own at) (relaysIn own n))
           → TakenOut (n - 1) m at (around .keys) (around .home) (e .around) → Edits s rs ts (Remove r) (r .0) e
       remove-passed a ee en em o t =
-          numbers-passed stands a remove-why ed ee h (unfold subject in here-small stands cp may-remove) em (rw en (delete-written stands cp may-remove r refl o))
+          numbers-passed stands a remove-why ed ee h (unfold subject in here-small stands cp may-remove) em
+          (rw en (delete-written stands cp may-remove r refl o))
           (rw en (take-around stands cp (remove-fits .0) o t))
 
   module _ (limit : ℕ) (ew : w ≡ setRefusal (r .0) limit there) where
@@ -194,8 +198,10 @@ module _ {s : ℕ} {rs ts : List ℕ} {n m at : ℕ} {there : Bool} {around : Ar
       set-fits = change-fits stands cp may-set
 
       pub set-passed : {e : Edit} → About (Set r limit) (r .0) → e .refusal ≡ w → e .n ≡ n → m ≡ e .m
-          → WroteRelays own (e .relays) n (put (relayNumber own at) limit (relaysIn own n)) × SetBeside relayNumber relayLimit own (e .relays) at limit
+          → WroteRelays own (e .relays) n (put (relayNumber own at) limit (relaysIn own n)) × SetBeside relayNumber relayLimit own
+          (e .relays) at limit
           → e .around ≡ around → Edits s rs ts (Set r limit) (r .0) e
       set-passed a ee en em o ea =
-          numbers-passed stands a set-why ed ee h (unfold subject in here-small stands cp may-set) em (rw en (put-written stands cp may-set r limit refl (o .0)))
+          numbers-passed stands a set-why ed ee h (unfold subject in here-small stands cp may-set) em
+          (rw en (put-written stands cp may-set r limit refl (o .0)))
           (rw (en, ea) (keep-around stands cp (o .1)))

@@ -36,7 +36,8 @@ module _ {s : ℕ} {rs ts : List ℕ} {x n m at : ℕ} {there : Bool} {around : 
   rises : Rises (positions s) rs ts n m
   rises = start-rises (stands .start)
 
-  surveyed : Surveyed (positions s) rs ts n m (around .keys) (stands .survey .room) (stands .survey .next) (stands .survey .last) (around .home) (stands .survey .slot)
+  surveyed : Surveyed (positions s) rs ts n m (around .keys) (stands .survey .room) (stands .survey .next) (stands .survey .last)
+      (around .home) (stands .survey .slot)
   surveyed = rw (stands .keys, stands .home) (stands .start .surveyed)
 
   small : (t : ℕ) → t < m → positions s .tabletAt (tabletNumber ts t) < 2 ^ 32
@@ -63,8 +64,12 @@ module _ {s : ℕ} {rs ts : List ℕ} {x n m at : ℕ} {there : Bool} {around : 
 
   pub take-asks : at < n → (n - 1 < mostRelays) × (m ≤ mostTablets) × Slot (around .keys) (n - 1 + 1) at
   take-asks h =
-      let e : n ≡ n - 1 + 1 = omega arith in
-      (omega (arith, rises .relaysFit .few), rises .tabletsFit .few, subst (λ (k : ℕ). Slot (around .keys) k at) e (surveyed .ordered .holds .every at h))
+      let e : n ≡ n - 1 + 1 = omega arith in (
+        omega (arith, rises .relaysFit .few),
+        rises .tabletsFit .few,
+        subst (λ (k : ℕ). Slot (around .keys) k at) e
+            (surveyed .ordered .holds .every at h),
+      )
 
   -- ---- the copy of the table
 
@@ -81,18 +86,25 @@ module _ {s : ℕ} {rs ts : List ℕ} {x n m at : ℕ} {there : Bool} {around : 
         → q ≡ positions s .relayAt x → q < 2 ^ 32 → Homes (positions s) own′ ts (n + 1) m (r .keys) (r .home)
     put-around {own′} limit few p o t eq lq =
         put-homes few (p .within) lq surveyed t small
-        (λ i h. inserted-number (relayNumber own) (relayLimit own) (relayNumber own′) (relayLimit own′) limit (p .within) (p .below) (p .above) (o .entries) i h ∙ copied-number cp i)
-        (eq ∙ ap (positions s .relayAt) (sym (inserted-here (relayNumber own) (relayLimit own) (relayNumber own′) (relayLimit own′) limit (p .within) (p .below) (p .above) (o .entries))))
+        (λ i h. inserted-number (relayNumber own) (relayLimit own) (relayNumber own′) (relayLimit own′) limit (p .within) (p .below)
+        (p .above) (o .entries) i h ∙ copied-number cp i)
+        (eq ∙ ap (positions s .relayAt)
+        (sym (inserted-here (relayNumber own) (relayLimit own) (relayNumber own′) (relayLimit own′) limit (p .within) (p .below) (p .above)
+        (o .entries))))
 
-    pub take-around : {own′ : List ℕ} {r : Around} → at < n → TookOut relayNumber relayLimit own own′ (n - 1) (delete (relayNumber own at) (relaysIn own n))
+    pub take-around : {own′ : List ℕ} {r : Around} → at < n → TookOut relayNumber relayLimit own own′ (n - 1)
+        (delete (relayNumber own at) (relaysIn own n))
         → TakenOut (n - 1) m at (around .keys) (around .home) r → Homes (positions s) own′ ts (n - 1) m (r .keys) (r .home)
     take-around {own′} h o t =
         let e : n ≡ n - 1 + 1 = omega arith in
-        taken-homes (omega (arith, rises .relaysFit .few)) (subst (λ (k : ℕ). Homes (positions s) rs ts k m (around .keys) (around .home)) e stands-homes) t
+        taken-homes (omega (arith, rises .relaysFit .few))
+        (subst (λ (k : ℕ). Homes (positions s) rs ts k m (around .keys) (around .home)) e stands-homes) t
         (λ i l.
-        deleted-number (relayNumber own) (relayLimit own) (relayNumber own′) (relayLimit own′) (subst (Ascending (relayNumber own)) e own-ascends) (omega arith)
+        deleted-number (relayNumber own) (relayLimit own) (relayNumber own′) (relayLimit own′)
+        (subst (Ascending (relayNumber own)) e own-ascends) (omega arith)
         (o .entries ∙ ap (λ (k : ℕ). delete (relayNumber own at) (relaysIn own k)) e) i l
         ∙ copied-number cp (skip at i))
 
-    pub keep-around : {own′ : List ℕ} {limit : ℕ} → SetBeside relayNumber relayLimit own own′ at limit → Homes (positions s) own′ ts n m (around .keys) (around .home)
+    pub keep-around : {own′ : List ℕ} {limit : ℕ} → SetBeside relayNumber relayLimit own own′ at limit
+        → Homes (positions s) own′ ts n m (around .keys) (around .home)
     keep-around o = kept-homes (rises .relaysFit .few) (λ i h. o .numbers i ∙ copied-number cp i) stands-homes

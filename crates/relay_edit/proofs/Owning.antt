@@ -105,7 +105,8 @@ module _ {s : ℕ} {rs ts : List ℕ} {x n m at : ℕ} {there : Bool} {around : 
       pub change-fits : (at < n) × (n ≤ relayPlaces own) × Climbs (relayNumber own) n
       change-fits = (here .0, omega (arith, own-places .1, rises .relaysFit .few), own-climbs)
 
-      pub delete-written : (r : RelayNumber) {own′ : List ℕ} → r .0 ≡ x → TookOut relayNumber relayLimit own own′ (n - 1) (delete (relayNumber own at) (relaysIn own n))
+      pub delete-written : (r : RelayNumber) {own′ : List ℕ} → r .0 ≡ x
+          → TookOut relayNumber relayLimit own own′ (n - 1) (delete (relayNumber own at) (relaysIn own n))
           → Written rs ts (Remove r) (n - 1) own′
       unfolding edited
       delete-written r er o = record {
@@ -119,7 +120,8 @@ module _ {s : ℕ} {rs ts : List ℕ} {x n m at : ℕ} {there : Bool} {around : 
           same : delete (relayNumber own at) (relaysIn own n) ≡ delete (r .0) (ringOf rs ts .relays)
           same = ap₂ delete (here .1 ∙ sym er) own-relays
 
-      pub put-written : (r : RelayNumber) (limit : ℕ) {own′ : List ℕ} → r .0 ≡ x → WroteRelays own own′ n (put (relayNumber own at) limit (relaysIn own n))
+      pub put-written : (r : RelayNumber) (limit : ℕ) {own′ : List ℕ} → r .0 ≡ x
+          → WroteRelays own own′ n (put (relayNumber own at) limit (relaysIn own n))
           → Written rs ts (Set r limit) n own′
       unfolding edited
       put-written r limit er o = record {

@@ -68,8 +68,14 @@ visit-requires c κs =
     let relay = c .before .before .before .before .before .before .slot-relay .ensures in
     let small = last-small f going _ (relay .0) in
     let same = c .from-u16 .ensures .0 in
-    let fit = f .rises .tabletsFit in
-    (room-for-one f going (head .loop-test .taken), relay .1, omega (arith, small, fit .few, same), omega (arith, small, fit .there, same), going .place-size, going .seat-size)
+    let fit = f .rises .tabletsFit in (
+      room-for-one f going (head .loop-test .taken),
+      relay .1,
+      omega (arith, small, fit .few, same),
+      omega (arith, small, fit .there, same),
+      going .place-size,
+      going .seat-size,
+    )
 
 next-slot-requires : tie.Need-next-slot-requires Inv-loop μ-loop
 next-slot-requires c κs =

@@ -52,7 +52,8 @@ same-length c = search needs
 returns : tie.Need-returns
 returns c =
     let plan = c .before .before .before in
-    refused-answers _ _ _ _ _ _ (sym (prepared plan .refusal)) (test-false _ (c .before .before .done .ensures) (c .before .if1 .taken)) _ (c .bare-reply .ensures)
+    refused-answers _ _ _ _ _ _ (sym (prepared plan .refusal)) (test-false _ (c .before .before .done .ensures) (c .before .if1 .taken)) _
+    (c .bare-reply .ensures)
 
 array-read-from-u8 : tie.Need-array-read-from-u8
 array-read-from-u8 c = search needs

@@ -64,13 +64,14 @@ seat-one-requires c κs =
     let b = head .loop-test .taken in
     let s = l .inv .1 0 in
     let r = start (head .before) .pre in
-    let read = c .before .before in
-    (omega (arith, read .before .before .before .before .from-u16 .ensures .0, r .places (l .c + 1) (omega arith) (omega arith)),
-    places-still _ _ (s .size) (r .tablets),
-    climbs-still (s .numbers) (r .climbs),
-    omega (arith, read .before .before .from-u8 .ensures .0, r .relays (l .c) (omega arith)),
-    omega (arith, read .from-u82 .ensures .0, r .relays (l .c + 1) (omega arith)),
-    omega (arith, r .list, list-length _ (l .inv .0) (r .list) s))
+    let read = c .before .before in (
+      omega (arith, read .before .before .before .before .from-u16 .ensures .0, r .places (l .c + 1) (omega arith) (omega arith)),
+      places-still _ _ (s .size) (r .tablets),
+      climbs-still (s .numbers) (r .climbs),
+      omega (arith, read .before .before .from-u8 .ensures .0, r .relays (l .c) (omega arith)),
+      omega (arith, read .from-u82 .ensures .0, r .relays (l .c + 1) (omega arith)),
+      omega (arith, r .list, list-length _ (l .inv .0) (r .list) s),
+    )
 
 add-c : tie.Need-add-c Inv-loop μ-loop
 add-c c = let head = turn (known c) in omega (arith, start (head .before) .pre .few, head .loop-test .taken)
@@ -81,11 +82,12 @@ loop-less c = omega (arith, turn (known c) .loop-test .taken)
 loop-again : tie.Need-loop-again Inv-loop μ-loop
 loop-again c =
     let head = turn (known c) in
-    let read = known c .before .before in
-    (omega (arith, head .loop-test .taken),
-    λ x. seating-more x _ _ _ _ _ _ _ (head .before .loop .inv .1 x) (omega (arith, start (head .before) .pre .list, head .loop-test .taken))
-        (sat-at (c .before .before .before .before .seat-one .ensures) (read .before .before .before .before .from-u16 .ensures .0)
-        (read .before .before .from-u8 .ensures .0) (read .from-u82 .ensures .0)))
+    let read = known c .before .before in (
+      omega (arith, head .loop-test .taken),
+      λ x. seating-more x _ _ _ _ _ _ _ (head .before .loop .inv .1 x) (omega (arith, start (head .before) .pre .list, head .loop-test .taken))
+          (sat-at (c .before .before .before .before .seat-one .ensures) (read .before .before .before .before .from-u16 .ensures .0)
+          (read .before .before .from-u8 .ensures .0) (read .from-u82 .ensures .0)),
+    )
 
 same-length : tie.Need-same-length Inv-loop μ-loop
 same-length c = c .before .loop .inv .1 0 .size

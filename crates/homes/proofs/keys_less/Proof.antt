@@ -1,9 +1,9 @@
 -- `homes::keys_less` meets its contract. The invariant: the first k keys are lowered. The measure is how many are left. Assumes nothing.
 use mathlib.Core.Path.{refl, ap, _∙_}
-use Prim.Native.Nat.{_-_}
+use Prim.Native.Nat.{_+_, _-_, _<_}
 use native.Mathlib.Omega.{arith}
 use lib.ListN.{getD}
-use Rattle.homes.specs.Shift.{lowered, KeysLess}
+use Rattle.homes.specs.Shift.{skip, lowered, KeysLess}
 use Rattle.homes.proofs.Skipping.{skip-below}
 use Rattle.homes.proofs.Shifting.{keys-less-none, keys-less-more, keys-less-end}
 use Rattle.homes.proofs.keys_less.Statement.{statement}
@@ -15,6 +15,9 @@ Inv-loop keys n s at less₀ k₀ less k = KeysLess k s at keys less
 abbrev μ-loop : tie.MeasureT-loop
 μ-loop keys n s at less₀ k₀ less k = n - k
 
+from-below : (c : tie.After-skip Inv-loop μ-loop) → let a = c .before .before .before .args in skip (a .s) (c .before .before .loop .k) < a .n + 1
+from-below c = skip-below _ _ _ (c .before .loop-test .taken)
+
 loop-holds : tie.Need-loop-holds Inv-loop μ-loop
 loop-holds c = keys-less-none _ _ refl
 
@@ -22,10 +25,10 @@ skip-requires : tie.Need-skip-requires Inv-loop μ-loop
 skip-requires c κs = omega arith
 
 mul-lowered : tie.Need-mul-lowered Inv-loop μ-loop
-mul-lowered c = omega (arith, c .skip .ensures, skip-below (c .before .before .before .args .s) (c .before .before .loop .k) (c .before .before .before .args .n) (c .before .loop-test .taken))
+mul-lowered c = omega (arith, c .skip .ensures, from-below c)
 
 element-copy-out-lowered : tie.Need-element-copy-out-lowered Inv-loop μ-loop
-element-copy-out-lowered c = omega (arith, c .skip .ensures, skip-below (c .before .before .before .args .s) (c .before .before .loop .k) (c .before .before .before .args .n) (c .before .loop-test .taken))
+element-copy-out-lowered c = omega (arith, c .skip .ensures, from-below c)
 
 lowered-requires : tie.Need-lowered-requires Inv-loop μ-loop
 lowered-requires c κs = tt
@@ -43,7 +46,11 @@ loop-less : tie.Need-loop-less Inv-loop μ-loop
 loop-less c = omega arith
 
 loop-again : tie.Need-loop-again Inv-loop μ-loop
-loop-again c = keys-less-more (c .before .before .before .before .loop .inv) (omega arith) (c .lowered .ensures ∙ ap (λ i. lowered (c .before .before .before .before .before .args .at) (getD (c .before .before .before .before .before .args .keys .now) i 0)) (c .before .before .skip .ensures))
+loop-again c =
+    let head = c .before .before .before .before in
+    let a = head .before .args in
+    keys-less-more (head .loop .inv) (omega arith)
+    (c .lowered .ensures ∙ ap (λ i. lowered (a .at) (getD (a .keys .now) i 0)) (c .before .before .skip .ensures))
 
 returns : tie.Need-returns Inv-loop μ-loop
 returns c = keys-less-end (c .loop-test .left) (c .before .loop .inv)

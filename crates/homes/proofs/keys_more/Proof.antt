@@ -1,7 +1,8 @@
 -- `homes::keys_more` meets its contract. The invariant: the first k keys are raised. The measure is how many are left. Assumes nothing.
 use mathlib.Core.Path.{refl}
-use Prim.Native.Nat.{_-_}
+use Prim.Native.Nat.{_+_, _-_, _<_}
 use native.Mathlib.Omega.{arith}
+use Rattle.homes.specs.Shift.{skip}
 use Rattle.homes.proofs.Skipping.{skip-below}
 use Rattle.homes.proofs.Shifting.{Raising, raising-none, raising-more, raising-end}
 use Rattle.homes.proofs.keys_more.Statement.{statement}
@@ -12,6 +13,9 @@ Inv-loop keys n s at x more₀ k₀ more k = Raising k s at keys more
 
 abbrev μ-loop : tie.MeasureT-loop
 μ-loop keys n s at x more₀ k₀ more k = n - k
+
+to-below : (c : tie.After-skip Inv-loop μ-loop) → let a = c .before .before .before .args in skip (a .s) (c .before .before .loop .k) < a .n + 1
+to-below c = skip-below _ _ _ (c .before .loop-test .taken)
 
 loop-holds : tie.Need-loop-holds Inv-loop μ-loop
 loop-holds c = raising-none _ _ refl
@@ -29,10 +33,10 @@ raised-requires : tie.Need-raised-requires Inv-loop μ-loop
 raised-requires c κs = c .before .before .before .before .pre .2 _ (c .before .before .loop-test .taken)
 
 mul-more : tie.Need-mul-more Inv-loop μ-loop
-mul-more c = omega (arith, c .before .before .skip .ensures, skip-below (c .before .before .before .before .before .args .s) (c .before .before .before .before .loop .k) (c .before .before .before .before .before .args .n) (c .before .before .before .loop-test .taken))
+mul-more c = omega (arith, c .before .before .skip .ensures, to-below (c .before .before))
 
 array-write-more : tie.Need-array-write-more Inv-loop μ-loop
-array-write-more c = omega (arith, c .before .before .skip .ensures, skip-below (c .before .before .before .before .before .args .s) (c .before .before .before .before .loop .k) (c .before .before .before .before .before .args .n) (c .before .before .before .loop-test .taken))
+array-write-more c = omega (arith, c .before .before .skip .ensures, to-below (c .before .before))
 
 add-k : tie.Need-add-k Inv-loop μ-loop
 add-k c = omega arith
@@ -41,7 +45,9 @@ loop-less : tie.Need-loop-less Inv-loop μ-loop
 loop-less c = omega arith
 
 loop-again : tie.Need-loop-again Inv-loop μ-loop
-loop-again c = raising-more (c .before .before .before .before .loop .inv) (c .before .before .skip .ensures) (omega (arith, c .before .before .skip .ensures, skip-below (c .before .before .before .before .before .args .s) (c .before .before .before .before .loop .k) (c .before .before .before .before .before .args .n) (c .before .before .before .loop-test .taken))) (c .raised .ensures)
+loop-again c =
+    let to = c .before .before in
+    raising-more (to .before .before .loop .inv) (to .skip .ensures) (omega (arith, to .skip .ensures, to-below to)) (c .raised .ensures)
 
 mul-more-2 : tie.Need-mul-more-2 Inv-loop μ-loop
 mul-more-2 c = omega arith

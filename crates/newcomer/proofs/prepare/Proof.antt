@@ -48,7 +48,8 @@ right c = c .before .before .before .before
 
 asked : (c : tie.After-newcomer-refusal) → let l = right c .before .before .look .result in
     Asked (start (right c) .args .scheme) (start (right c) .args .relays .now) (start (right c) .args .tablets .now) (l .n) (l .m) (l .survey)
-    (start (right c) .args .t) (c .before .before .before .tablet-spot .result) (c .before .before .tablet-there .result) (c .before .tablet-places .result)
+    (start (right c) .args .t) (c .before .before .before .tablet-spot .result) (c .before .before .tablet-there .result)
+    (c .before .tablet-places .result)
 asked c = record {
   start = found (right c);
   spot = c .before .before .before .tablet-spot .ensures;
@@ -61,7 +62,8 @@ abbrev number : tie.Else2 → tie.After-newcomer-refusal
 number c = c .before .before
 
 free : (c : tie.Else2) → let a = number c in
-    isDone (newcomerRefusal (start (right a) .args .t .0) (a .before .before .tablet-there .result) (a .before .tablet-places .result) (right a .before .before .look .result .m)) ≡ true
+    isDone (newcomerRefusal (start (right a) .args .t .0) (a .before .before .tablet-there .result) (a .before .tablet-places .result)
+    (right a .before .before .look .result .m)) ≡ true
 free c = ap isDone (sym (number c .newcomer-refusal .ensures)) ∙ test-true _ (c .before .done2 .ensures) (c .if2 .left)
 
 -- nothing bars the newcomer, from where its home is sought
@@ -80,7 +82,8 @@ turned c = c .before .before .before
 returns : tie.Need-returns
 returns c =
     let refused = test-false _ (c .before .before .done .ensures) (c .before .if1 .taken) in
-    λ ms e. refused-plan _ _ (c .no-enrolment .ensures) refused (look-refused _ _ _ ms _ _ (sym (c .before .before .before .look .ensures .refusal)) refused)
+    λ ms e. refused-plan _ _ (c .no-enrolment .ensures) refused
+    (look-refused _ _ _ ms _ _ (sym (c .before .before .before .look .ensures .refusal)) refused)
 
 tablet-spot-requires : tie.Need-tablet-spot-requires
 tablet-spot-requires c κs = let r = start-rises (found c) in (r .tabletsFit, r .tablets)
@@ -103,7 +106,8 @@ no-enrolment-requires-2 c κs = search needs
 returns-2 : tie.Need-returns-2
 returns-2 c =
     let a = c .before .before .before in
-    λ ms e. barred-plan (asked a) _ _ (a .newcomer-refusal .ensures) (c .no-enrolment2 .ensures) (test-false _ (c .before .before .done2 .ensures) (c .before .if2 .taken))
+    λ ms e. barred-plan (asked a) _ _ (a .newcomer-refusal .ensures) (c .no-enrolment2 .ensures)
+    (test-false _ (c .before .before .done2 .ensures) (c .before .if2 .taken))
 
 seek-requires : tie.Need-seek-requires
 seek-requires c κs = let b = found (right (number (clear c))) in (start-rises b .relaysFit .few, b .surveyed .row)

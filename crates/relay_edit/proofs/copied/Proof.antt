@@ -35,7 +35,11 @@ loop-less : tie.Need-loop-less Inv-loop μ-loop
 loop-less c = omega (arith, c .before .loop-test .taken)
 
 loop-again : tie.Need-loop-again Inv-loop μ-loop
-loop-again c = (omega (arith, c .before .loop-test .taken), copying-more (c .before .before .loop .inv .1) (omega (arith, c .before .loop-test .taken, c .before .before .before .pre)))
+loop-again c = (
+  omega (arith, c .before .loop-test .taken),
+  copying-more (c .before .before .loop .inv .1)
+      (omega (arith, c .before .loop-test .taken, c .before .before .before .pre)),
+)
 
 returns : tie.Need-returns Inv-loop μ-loop
 returns c = copying-end (c .loop-test .left) (c .before .loop .inv .0) (c .before .loop .inv .1)

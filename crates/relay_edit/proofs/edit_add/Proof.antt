@@ -40,7 +40,8 @@ returns : tie.Need-returns
 returns c =
     let asked = c .before .before .before in
     let a = start asked .args in
-    found-refused (asked .find-relay .ensures) (c .before .before .done .ensures) (c .before .if1 .taken) (add-about (a .r) (a .limit)) (c .no-edit .ensures)
+    found-refused (asked .find-relay .ensures) (c .before .before .done .ensures) (c .before .if1 .taken) (add-about (a .r) (a .limit))
+    (c .no-edit .ensures)
 
 relay-places-requires : tie.Need-relay-places-requires
 relay-places-requires c κs = search needs
@@ -58,7 +59,8 @@ returns-2 : tie.Need-returns-2
 returns-2 c =
     let q = c .before .before in
     let a = call q .args in
-    add-refused (a .r) (stands (right q)) (q .done2 .ensures) (a .limit) (q .before .before .relay-places .ensures) (q .before .add-refusal .ensures .0)
+    add-refused (a .r) (stands (right q)) (q .done2 .ensures) (a .limit) (q .before .before .relay-places .ensures)
+    (q .before .add-refusal .ensures .0)
     (add-about (a .r) (a .limit)) (c .before .if2 .taken) (c .no-edit2 .ensures)
 
 copied-requires : tie.Need-copied-requires
@@ -94,10 +96,12 @@ returns-3 c =
     let own = copy (c .before) in
     let q = own .before .before in
     let a = call q .args in
-    add-passed (a .r) (stands (right q)) (q .done2 .ensures) (a .limit) (q .before .before .relay-places .ensures) (q .before .add-refusal .ensures .0)
+    add-passed (a .r) (stands (right q)) (q .done2 .ensures) (a .limit) (q .before .before .relay-places .ensures)
+    (q .before .add-refusal .ensures .0)
     (own .before .if2 .left) (own .copied .ensures)
     (add-about (a .r) (a .limit)) (q .before .add-refusal .ensures .1) refl refl refl
-    (c .before .before .before .before .insert-relay .ensures) (c .before .relay-at .ensures) (omega (arith, c .before .relay-at .ok)) (c .put-in .ensures)
+    (c .before .before .before .before .insert-relay .ensures) (c .before .relay-at .ensures) (omega (arith, c .before .relay-at .ok))
+    (c .put-in .ensures)
 
 pub edit-add-spec : {M : Type 1} → statement M
 edit-add-spec =

@@ -52,7 +52,8 @@ returns-2 : tie.Need-returns-2
 returns-2 c =
     let q = c .before .before in
     let r = call q .args .r in
-    remove-refused r (stands (right q)) (q .done2 .ensures) (q .before .missing .ensures) (remove-about r) (c .before .if2 .taken) (c .no-edit2 .ensures)
+    remove-refused r (stands (right q)) (q .done2 .ensures) (q .before .missing .ensures) (remove-about r) (c .before .if2 .taken)
+    (c .no-edit2 .ensures)
 
 copied-requires : tie.Need-copied-requires
 copied-requires c κs = stands-short (stands (right (c .before)))
@@ -70,7 +71,9 @@ sub-less : tie.Need-sub-less
 sub-less c =
     let own = c .before .before .before in
     let q = own .before .before in
-    let p = remove-fits (call q .args .r) (stands (right q)) (q .done2 .ensures) (q .before .missing .ensures) (own .before .if2 .left) (own .copied .ensures) in
+    let p =
+    remove-fits (call q .args .r) (stands (right q)) (q .done2 .ensures) (q .before .missing .ensures) (own .before .if2 .left)
+    (own .copied .ensures) in
     omega (arith, p .0)
 
 take-out-requires : tie.Need-take-out-requires
@@ -85,7 +88,8 @@ returns-3 c =
     let deleted = c .before .before .before in
     let own = deleted .before .before in
     let q = own .before .before in
-    remove-passed (call q .args .r) (stands (right q)) (q .done2 .ensures) (q .before .missing .ensures) (own .before .if2 .left) (own .copied .ensures)
+    remove-passed (call q .args .r) (stands (right q)) (q .done2 .ensures) (q .before .missing .ensures) (own .before .if2 .left)
+    (own .copied .ensures)
     (remove-about (call q .args .r)) refl refl refl (deleted .delete-relay .ensures) (c .take-out .ensures)
 
 pub edit-remove-spec : {M : Type 1} → statement M

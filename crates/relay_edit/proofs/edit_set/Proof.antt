@@ -35,7 +35,8 @@ returns : tie.Need-returns
 returns c =
     let asked = c .before .before .before in
     let a = start asked .args in
-    found-refused (asked .find-relay .ensures) (c .before .before .done .ensures) (c .before .if1 .taken) (set-about (a .r) (a .limit)) (c .no-edit .ensures)
+    found-refused (asked .find-relay .ensures) (c .before .before .done .ensures) (c .before .if1 .taken) (set-about (a .r) (a .limit))
+    (c .no-edit .ensures)
 
 set-refusal-requires : tie.Need-set-refusal-requires
 set-refusal-requires c κs = search needs
@@ -64,14 +65,16 @@ limit-relay-requires c κs =
     let own = c .before in
     let q = own .before .before in
     let a = call q .args in
-    set-fits (a .r) (stands (right q)) (q .done2 .ensures) (a .limit) (q .before .set-refusal .ensures) (own .before .if2 .left) (own .copied .ensures)
+    set-fits (a .r) (stands (right q)) (q .done2 .ensures) (a .limit) (q .before .set-refusal .ensures) (own .before .if2 .left)
+    (own .copied .ensures)
 
 returns-3 : tie.Need-returns-3
 returns-3 c =
     let own = c .before .before .before .before in
     let q = own .before .before in
     let a = call q .args in
-    set-passed (a .r) (stands (right q)) (q .done2 .ensures) (a .limit) (q .before .set-refusal .ensures) (own .before .if2 .left) (own .copied .ensures)
+    set-passed (a .r) (stands (right q)) (q .done2 .ensures) (a .limit) (q .before .set-refusal .ensures) (own .before .if2 .left)
+    (own .copied .ensures)
     (set-about (a .r) (a .limit)) refl refl refl (c .before .before .limit-relay .ensures) refl
 
 pub edit-set-spec : {M : Type 1} → statement M

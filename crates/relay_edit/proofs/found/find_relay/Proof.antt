@@ -30,7 +30,8 @@ relay-spot-requires c κs =
 
 relay-there-requires : tie.Need-relay-there-requires
 relay-there-requires c κs =
-    let r = start-rises (c .before .before .before .look .ensures .start (sym (c .before .before .done .ensures) ∙ not-false _ (c .before .if1 .left))) in
+    let r =
+    start-rises (c .before .before .before .look .ensures .start (sym (c .before .before .done .ensures) ∙ not-false _ (c .before .if1 .left))) in
     (r .relaysFit, r .relays, c .relay-spot .ensures)
 
 returns-2 : tie.Need-returns-2

@@ -17,19 +17,34 @@ too-large-requires c κs = search needs
 
 returns-2 : tie.Need-returns-2
 unfolding addRefusal
-returns-2 c = (bar-next _ _ (ne-eqb _ _ (c .before .before .if1 .left)) (bar-first _ (sym (c .before .too-large .ensures) ∙ c .if2 .taken)), omega arith)
+returns-2 c =
+    (bar-next _ _ (ne-eqb _ _ (c .before .before .if1 .left)) (bar-first _ (sym (c .before .too-large .ensures) ∙ c .if2 .taken)), omega arith)
 
 returns-3 : tie.Need-returns-3
 unfolding addRefusal
-returns-3 c = (bar-next _ _ (ne-eqb _ _ (c .before .before .before .if1 .left)) (bar-next _ _ (sym (c .before .before .too-large .ensures) ∙ c .before .if2 .left) (bar-first _ (c .if3 .taken))), omega arith)
+returns-3 c = (
+  bar-next _ _ (ne-eqb _ _ (c .before .before .before .if1 .left))
+      (bar-next _ _ (sym (c .before .before .too-large .ensures) ∙ c .before .if2 .left) (bar-first _ (c .if3 .taken))),
+  omega arith,
+)
 
 returns-4 : tie.Need-returns-4
 unfolding addRefusal
-returns-4 c = (bar-next _ _ (ne-eqb _ _ (c .before .before .before .before .if1 .left)) (bar-next _ _ (sym (c .before .before .before .too-large .ensures) ∙ c .before .before .if2 .left) (bar-next _ _ (c .before .if3 .left) (bar-first _ (c .if4 .taken)))), omega arith)
+returns-4 c = (
+  bar-next _ _ (ne-eqb _ _ (c .before .before .before .before .if1 .left))
+      (bar-next _ _ (sym (c .before .before .before .too-large .ensures) ∙ c .before .before .if2 .left)
+      (bar-next _ _ (c .before .if3 .left) (bar-first _ (c .if4 .taken)))),
+  omega arith,
+)
 
 returns-5 : tie.Need-returns-5
 unfolding addRefusal
-returns-5 c = (bar-next _ _ (ne-eqb _ _ (c .before .before .before .before .if1 .left)) (bar-next _ _ (sym (c .before .before .before .too-large .ensures) ∙ c .before .before .if2 .left) (bar-next _ _ (c .before .if3 .left) (bar-next _ _ (c .if4 .left) (bar-none)))), omega arith)
+returns-5 c = (
+  bar-next _ _ (ne-eqb _ _ (c .before .before .before .before .if1 .left))
+      (bar-next _ _ (sym (c .before .before .before .too-large .ensures) ∙ c .before .before .if2 .left)
+      (bar-next _ _ (c .before .if3 .left) (bar-next _ _ (c .if4 .left) (bar-none)))),
+  omega arith,
+)
 
 pub add-refusal-spec : {M : Type 1} → statement M
 add-refusal-spec =
