@@ -26,10 +26,11 @@ use Rattle.lent.specs.Placing.{relayFor}
 use Rattle.lent.proofs.Loops.{stored}
 use Rattle.survey.specs.Seats.{lastAfter}
 use Rattle.meaning.specs.Meaning.{places, tabletsIn}
+use Rattle.meaning.specs.Rising.{Rises}
 use Rattle.meaning.proofs.Places.{ascending-apart, ascending-fewer}
 use Rattle.meaning.proofs.More.{greatest-more}
 use Rattle.meaning.proofs.Placed.{Found}
-use Rattle.meaning.proofs.Right.{Rises, right-found}
+use Rattle.meaning.proofs.Right.{right-found}
 use Rattle.chain.specs.Chain.{nameAt, fromAt, linkAt, chainOf}
 use Rattle.chain.specs.Visit.{givesWay, Visited}
 

@@ -15,7 +15,7 @@ use Rattle.lent.specs.Placing.{relayPositions}
 use Rattle.order.specs.Keys.{slotRelay, Ordered}
 use Rattle.survey.specs.Seats.{lastAfter}
 use Rattle.meaning.specs.Meaning.{tabletsIn}
-use Rattle.meaning.proofs.Right.{Rises}
+use Rattle.meaning.specs.Rising.{Rises}
 use Rattle.slots.specs.Slots.{stepsTo, round}
 
 -- the number of the c-th who sits down

@@ -7,33 +7,18 @@ use native.Mathlib.Omega.{arith}
 use lib.ListN.{length, getD}
 use Rattle.ring.specs.Scheme.{positions}
 use Rattle.ring.specs.declared.TabletNumber.{TabletNumber}
-use Rattle.ring.proofs.Tests.{true-false}
-use Rattle.rule.specs.declared.Refusal.{Refusal}
-use Rattle.rule.specs.declared.Refusal.the-variants.{
-  Done,
-  SchemeUnknown,
-  TablesNotRight,
-  NumberZero,
-  TooLarge,
-  NotThere,
-  ThereAlready,
-  NoUnusedPlace,
-  LimitsTooSmall,
-  MoveListTooShort,
-  RosterShapeWrong,
-  RosterContentWrong,
-  OutputUnfit,
-}
+use Rattle.rule.specs.declared.Refusal.the-variants.{Done}
 use Rattle.rule.specs.declared.Call.the-variants.{Enrol}
 use Rattle.rule.specs.declared.Move.{Move}
 use Rattle.rule.specs.Entry.{Entry, insert, put}
 use Rattle.rule.specs.Refusals.{isDone, replied}
+use Rattle.rule.proofs.Lowest.{done-is}
 use Rattle.rule.specs.Calls.{refusal, accepted, moves}
 use Rattle.rule.specs.Calls as Calls
 use Rattle.rule.specs.Sweeps.{seated}
 use Rattle.rule.specs.Stability.{Rising}
+use Rattle.rule.specs.Moves.{tabletsListed}
 use Rattle.rule.proofs.Puts.{put-insert}
-use Rattle.rule.proofs.Moves.{tabletsOf}
 use Rattle.lent.specs.Table.{relayNumber, tabletNumber, tabletPlaces}
 use Rattle.meaning.specs.Meaning.{tabletsIn, ringOf}
 use Rattle.write.specs.Tables.{tabletTable, listed}
@@ -48,25 +33,8 @@ use Rattle.enrol.specs.Enrol.{OthersSeated}
 use Rattle.newcomer.proofs.Working.{length-others}
 use Rattle.enrol.proofs.Seating.{places-still}
 
--- only one refusal is none
-done-is : (r : Refusal) → isDone r ≡ true → r ≡ Done
-unfolding isDone
-done-is Done h = refl
-done-is SchemeUnknown h = absurd (true-false (sym h))
-done-is TablesNotRight h = absurd (true-false (sym h))
-done-is NumberZero h = absurd (true-false (sym h))
-done-is TooLarge h = absurd (true-false (sym h))
-done-is NotThere h = absurd (true-false (sym h))
-done-is ThereAlready h = absurd (true-false (sym h))
-done-is NoUnusedPlace h = absurd (true-false (sym h))
-done-is LimitsTooSmall h = absurd (true-false (sym h))
-done-is MoveListTooShort h = absurd (true-false (sym h))
-done-is RosterShapeWrong h = absurd (true-false (sym h))
-done-is RosterContentWrong h = absurd (true-false (sym h))
-done-is OutputUnfit h = absurd (true-false (sym h))
-
 -- the newcomer put in before or after the others sat down
-seated-insert : (ms : List Move) (low : ℕ) → Rising low (tabletsOf ms) → (x c : ℕ) → x ≤ low → (es : List Entry)
+seated-insert : (ms : List Move) (low : ℕ) → Rising low (tabletsListed ms) → (x c : ℕ) → x ≤ low → (es : List Entry)
     → seated ms (insert x c es) ≡ insert x c (seated ms es)
 unfolding seated
 seated-insert [] low up x c h es = refl

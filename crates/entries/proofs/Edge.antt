@@ -18,15 +18,15 @@ use Rattle.lent.proofs.Shaped.{shape-within, shape-entry, shape-rest, shape-use
 
 module _ (number : ℕ → ℕ) (places : ℕ) where
   pub edge-start : Edge number places 0 places
-  edge-start = record { order = omega arith; within = omega arith; some = λ i e. absurd (omega arith); none = λ h. absurd (omega arith) }
+  edge-start = record { order = omega arith; within = omega arith; numbered = λ i e. absurd (omega arith); unnumbered = λ h. absurd (omega arith) }
 
   module _ {low high : ℕ} (s : Edge number places low high) where
     pub edge-low : (middle : ℕ) → middle < high → 0 < number middle → Edge number places (middle + 1) high
     edge-low middle h l =
-        record { order = omega arith; within = s .within; some = λ i e. let q : i ≡ middle = omega arith in omega (arith, ap number q); none = s .none }
+        record { order = omega arith; within = s .within; numbered = λ i e. let q : i ≡ middle = omega arith in omega (arith, ap number q); unnumbered = s .unnumbered }
 
     pub edge-high : (middle : ℕ) → low ≤ middle → middle < high → number middle ≤ 0 → Edge number places low middle
-    edge-high middle g h l = record { order = g; within = omega (arith, s .within); some = s .some; none = λ k. omega arith }
+    edge-high middle g h l = record { order = g; within = omega (arith, s .within); numbered = s .numbered; unnumbered = λ k. omega arith }
 
     pub edge-end : high ≤ low → Edge number places low low
     edge-end h = let e : high ≡ low = omega (arith, s .order) in rw e at s
@@ -37,10 +37,10 @@ module _ (number : ℕ → ℕ) (places : ℕ) where
     edge-only k e =
         split (ltb n k)
         (λ t. let h : n < k = ltb-true n k t in
-        absurd (omega (arith, s .none (omega (arith, shape-within top number beside k places e)), shape-entry top number beside k places e n h .0)))
+        absurd (omega (arith, s .unnumbered (omega (arith, shape-within top number beside k places e)), shape-entry top number beside k places e n h .0)))
         (λ t. let h : k ≤ n = ltb-false n k t in
         split (ltb k n)
-        (λ u. absurd (beyond n h (ltb-true k n u) (s .some) (s .within)))
+        (λ u. absurd (beyond n h (ltb-true k n u) (s .numbered) (s .within)))
         (λ u. omega (arith, ltb-false k n u)))
       where
         beyond : (n : ℕ) → k ≤ n → k < n → ((i : ℕ) → i + 1 ≡ n → 0 < number i) → n ≤ places → ⊥

@@ -12,8 +12,8 @@ use Rattle.lent.specs.Placing.{placed, right}
 pub record Edge (number : ℕ → ℕ) (places low high : ℕ) : Type 0 where
   pub order : low ≤ high
   pub within : high ≤ places
-  pub some : (i : ℕ) → i + 1 ≡ low → 0 < number i
-  pub none : high < places → number high ≡ 0
+  pub numbered : (i : ℕ) → i + 1 ≡ low → 0 < number i
+  pub unnumbered : high < places → number high ≡ 0
 
 -- ---- each table
 pub record RelayEntries (rs : List ℕ) (right : Bool) (n : ℕ) : Type 0 where

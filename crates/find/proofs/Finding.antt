@@ -15,7 +15,7 @@ use Rattle.rule.specs.Rule.{Ring}
 use Rattle.rule.specs.Refusals.{isDone, replied}
 use Rattle.rule.specs.Calls as Calls
 use Rattle.rule.specs.Calls.{edited, moves, passed, relayOf, refusal, accepted}
-use Rattle.rule.proofs.Right.{Right}
+use Rattle.rule.specs.Facts.{Right}
 use Rattle.rule.proofs.Outcomes.{find-after, find-moves}
 use Rattle.survey.specs.declared.Survey.{Survey}
 use Rattle.meaning.specs.Meaning.{ringOf, lentOf}

@@ -27,10 +27,10 @@ module _ (home slot : List ℕ) (m i : ℕ) where
   pub record Seeking (j : ℕ) : Type 0 where
     pub low : i < j
     pub high : j ≤ m
-    pub none : (l : ℕ) → i < l → l < j → passedAt home slot i l ≡ false
+    pub skipped : (l : ℕ) → i < l → l < j → passedAt home slot i l ≡ false
 
   pub seek-start : i < m → Seeking (i + 1)
-  seek-start h = record { low = omega arith; high = omega arith; none = λ l a b. absurd (omega arith) }
+  seek-start h = record { low = omega arith; high = omega arith; skipped = λ l a b. absurd (omega arith) }
 
   module _ {j : ℕ} (s : Seeking j) where
     pub seek-on : j < m → passedAt home slot i j ≡ false → Seeking (j + 1)
@@ -38,19 +38,19 @@ module _ (home slot : List ℕ) (m i : ℕ) where
         record {
           low = omega (arith, s .low);
           high = omega arith;
-          none = λ l a b. split (ltb l j)
-              (λ u. s .none l a (ltb-true l j u))
+          skipped = λ l a b. split (ltb l j)
+              (λ u. s .skipped l a (ltb-true l j u))
               (λ u. let z : l ≡ j = omega (arith, ltb-false l j u) in ap (passedAt home slot i) z ∙ e);
         }
 
     pub seek-found : passedAt home slot i j ≡ true → Next home slot m i j
-    seek-found e = record { low = s .low; high = s .high; none = s .none; some = λ h. e }
+    seek-found e = record { low = s .low; high = s .high; skipped = s .skipped; passed = λ h. e }
 
     pub seek-end : m ≤ j → Next home slot m i j
-    seek-end h = record { low = s .low; high = s .high; none = s .none; some = λ l. absurd (omega arith) }
+    seek-end h = record { low = s .low; high = s .high; skipped = s .skipped; passed = λ l. absurd (omega arith) }
 
 pub next-at-once : {keys room home slot : List ℕ} {m : ℕ} → Sweeps keys room home slot m → (i : ℕ) → i < m → 0 < slotRoom keys room (getD slot i 0) → Next home slot m i m
-next-at-once s i h o = record { low = h; high = omega arith; none = λ j a b. s .roomy i j h b o; some = λ c. absurd (omega arith) }
+next-at-once s i h o = record { low = h; high = omega arith; skipped = λ j a b. s .roomy i j h b o; passed = λ c. absurd (omega arith) }
 
 -- ---- who moves
 
@@ -80,7 +80,7 @@ module _ (home slot : List ℕ) where
       let a : m - suc i ≡ (r - suc i) + (m - r) = omega (arith, x .low, x .high) in
       let b : suc i + (r - suc i) ≡ r = omega (arith, x .low) in
       ap (movers home slot i (suc i)) a
-      ∙ movers-skip i (r - suc i) (suc i) (m - r) (λ l c d. x .none l c (omega arith))
+      ∙ movers-skip i (r - suc i) (suc i) (m - r) (λ l c d. x .skipped l c (omega arith))
       ∙ ap (λ (z : ℕ). movers home slot i z (m - r)) b
 
 -- ---- the chain so far
@@ -144,7 +144,7 @@ module _ (home slot : List ℕ) (m at : ℕ) where
           let a : m - j ≡ suc (m - suc j) = omega arith in
           movers-next home slot m (w .leaver) j (w .next)
           ∙ ap (movers home slot (w .leaver) j) a
-          ∙ movers-take home slot (w .leaver) j (m - suc j) (w .next .some h)
+          ∙ movers-take home slot (w .leaver) j (m - suc j) (w .next .passed h)
 
       pub sweep-on : {r : ℕ} → j < m → Next home slot m j r → Swept (set places count j) (count + 1) r
       sweep-on {r} h x =
@@ -168,7 +168,7 @@ module _ (home slot : List ℕ) (m at : ℕ) where
               arith,
               w .few,
               fewer-more (lastOf slot m) mostRelays (lastOf slot m k) (getD slot j 0) (s .slots j h)
-                  (omega (arith, last-below slot m k j (λ l a b e. s .shut (w .leaver) j l (w .inside) (w .next .some h) a b e), last-above slot m (getD slot j 0) j h refl)),
+                  (omega (arith, last-below slot m k j (λ l a b e. s .shut (w .leaver) j l (w .inside) (w .next .passed h) a b e), last-above slot m (getD slot j 0) j h refl)),
             );
           }
 

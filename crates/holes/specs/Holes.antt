@@ -37,8 +37,8 @@ pub record Sweeps (keys room home slot : List ℕ) (m : ℕ) : Type 0 where
 pub record Next (home slot : List ℕ) (m i r : ℕ) : Type 0 where
   pub low : i < r
   pub high : r ≤ m
-  pub none : (j : ℕ) → i < j → j < r → passedAt home slot i j ≡ false
-  pub some : r < m → passedAt home slot i r ≡ true
+  pub skipped : (j : ℕ) → i < j → j < r → passedAt home slot i j ≡ false
+  pub passed : r < m → passedAt home slot i r ≡ true
 
 -- so many places that rise, between two
 pub record Climbing (places : List ℕ) (count low high : ℕ) : Type 0 where

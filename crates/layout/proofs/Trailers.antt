@@ -15,7 +15,7 @@ use Rattle.ring.proofs.Tests.{split, true-false, and-left, and-right}
 use Rattle.lent.specs.Table.{mostRelays, mostTablets}
 use Rattle.layout.specs.declared.Trailer.{Trailer}
 use Rattle.layout.specs.Opened.{opened, unopened, trailerOf}
-use Rattle.layout.specs.Roster.{trailerBytes, field, relayDistance, relayCount, tabletDistance, tabletCount, rosterScheme, entryBytes, shaped, shapeRight, block, rosterRing}
+use Rattle.layout.specs.Roster.{trailerBytes, field, relayDistance, relayCount, tabletDistance, tabletCount, rosterScheme, entryBytes, shaped, shapeRight, block, rosterRing, Shape}
 
 module _ (len back n back₂ m : ℕ) where
   pub relays-many : mostRelays < n → false ≡ shaped len back n back₂ m
@@ -93,13 +93,6 @@ module _ (b : List ℕ) {t : Trailer} (o : t ≡ trailerOf b) where
       (λ s. absurd (true-false (sym e ∙ ap (λ (x : Trailer). x .right) (o ∙ short-unopened b s))))
 
 -- ---- a right shape
-
-pub record Shape (b : List ℕ) : Type 0 where
-  pub relays : relayCount b ≤ mostRelays
-  pub tablets : tabletCount b ≤ mostTablets
-  pub size : length b ≡ trailerBytes + entryBytes * tabletCount b + entryBytes * relayCount b
-  pub relaysBack : relayDistance b ≡ length b
-  pub tabletsBack : tabletDistance b ≡ trailerBytes + entryBytes * tabletCount b
 
 pub shape-is : (b : List ℕ) → shapeRight b ≡ true → Shape b
 unfolding shapeRight shaped

@@ -1,7 +1,8 @@
 -- A roster's bytes (document 01, "Roster file"): blocks first, then a trailer that points back. Assumes nothing.
 use mathlib.Core.Bool.{Bool, _&&_}
 use mathlib.Core.List.{List}
-use Prim.Native.Nat.{ℕ, _+_, _*_, _-_}
+use mathlib.Core.Path.{_≡_}
+use Prim.Native.Nat.{ℕ, _+_, _*_, _-_, _≤_}
 use lib.Dec.{eqb, leb}
 use lib.ListN.{length}
 use Rattle.rule.specs.Entry.{Entry}
@@ -53,6 +54,14 @@ shaped len relayBack relays tabletBack tablets =
 unfoldable pub shapeRight : List ℕ → Bool
 shapeRight b =
     leb trailerBytes (length b) && shaped (length b) (relayDistance b) (relayCount b) (tabletDistance b) (tabletCount b)
+
+-- what a right shape says
+pub record Shape (b : List ℕ) : Type 0 where
+  pub relays : relayCount b ≤ mostRelays
+  pub tablets : tabletCount b ≤ mostTablets
+  pub size : length b ≡ trailerBytes + entryBytes * tabletCount b + entryBytes * relayCount b
+  pub relaysBack : relayDistance b ≡ length b
+  pub tabletsBack : tabletDistance b ≡ trailerBytes + entryBytes * tabletCount b
 
 -- ---- the blocks: an entry is its number, and beside it a relay's limit, a tablet's relay
 

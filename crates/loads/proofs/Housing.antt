@@ -13,8 +13,9 @@ use Rattle.rule.proofs.Tallies.{loads-length}
 use Rattle.lent.specs.Table.{relayNumber, relayLimit, tabletNumber, tabletRelay}
 use Rattle.survey.specs.declared.Survey.{Survey}
 use Rattle.meaning.specs.Meaning.{relaysIn, tabletsIn, ringOf}
+use Rattle.meaning.specs.Rising.{Rises}
 use Rattle.meaning.proofs.Places.{length-places, held-places}
-use Rattle.meaning.proofs.Right.{Rises, right-found, right-room}
+use Rattle.meaning.proofs.Right.{right-found, right-room}
 use Rattle.look.specs.Start.{Start}
 use Rattle.look.proofs.Refusing.{start-rises, start-ring}
 use Rattle.loads.specs.Loads.{placeOf, Housed}

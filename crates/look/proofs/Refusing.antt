@@ -21,13 +21,14 @@ use Rattle.rule.specs.declared.Reply.{Reply}
 use Rattle.rule.specs.Entry.{total}
 use Rattle.rule.specs.Rule.{Ring}
 use Rattle.rule.specs.Refusals.{isDone, bareReply, Bar, bar, firstBar}
-use Rattle.rule.specs.Calls.{Lent, edited, moves, wrongNumbers, refusal, accepted, declined, outcome}
+use Rattle.rule.specs.Calls.{Lent, edited, moves, wrongNumbers, refusal, accepted, declined}
 use Rattle.rule.specs.Calls as Calls
 use Rattle.rule.proofs.Accepted.{outcome-accepted, outcome-declined}
 use Rattle.promise.specs.Promise.{Answers}
 use Rattle.promise.proofs.Binding.{settled-done, settled-refused}
 use Rattle.meaning.specs.Meaning.{relaysIn, tabletsIn, ringOf, tablesRight, tablesBars, tablesRefusal, lentOf}
-use Rattle.meaning.proofs.Right.{Rises, right-rises}
+use Rattle.meaning.specs.Rising.{Rises}
+use Rattle.meaning.proofs.Right.{right-rises}
 use Rattle.survey.specs.declared.Survey.{Survey}
 use Rattle.write.specs.Tables.{relayTable, tabletTable, listed}
 use Rattle.look.specs.Promise.{outcomeOf, lists, written, left, after}

@@ -14,8 +14,8 @@ use Rattle.rule.specs.Rule.{Ring}
 use Rattle.lent.specs.Table.{mostRelays, relayPlaces, relayNumber, relayLimit, relayWhole, tabletPlaces, tabletNumber, tabletRelay, tabletWhole}
 use Rattle.survey.specs.declared.Survey.{Survey}
 use Rattle.meaning.specs.Meaning.{relaysIn, tabletsIn}
+use Rattle.meaning.specs.Rising.{Rises}
 use Rattle.meaning.proofs.Fit.{Fit, whole-relays, whole-tablets, right-fit}
-use Rattle.meaning.proofs.Right.{Rises}
 use Rattle.write.specs.Tables.{flat, filled, relayTable, tabletTable}
 use Rattle.write.specs.Places.{Zeros}
 use Rattle.write.proofs.Filled.{relays-filled, tablets-filled}

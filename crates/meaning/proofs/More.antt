@@ -63,7 +63,7 @@ module _ (f b : ℕ → ℕ) (n r : ℕ) where
       let low : g < f n =
       split (ltb 0 g)
       (λ s. let t : At f b n g r = greatest-at (ltb-true 0 g s) in omega (arith, a .up (t .at) n (t .below) (omega arith), t .number))
-      (λ s. omega (arith, ltb-false 0 g s, a .some n (omega arith))) in
+      (λ s. omega (arith, ltb-false 0 g s, a .numbered n (omega arith))) in
       rw add-one
       (greatest-append (places f b n) (entry (f n) (b n) ∷ []) r
       ∙ split (eqb (b n) r) (λ s. rw (s, greatest) (omega arith)) (λ s. rw (s, greatest) (omega arith)))

@@ -10,24 +10,18 @@ use native.Mathlib.Omega.{arith}
 use borrow.Author.Tests.{ltb-true, ltb-false, eqb-true}
 use lib.Dec.{eqb, ltb}
 use Rattle.ring.specs.Scheme.{Positions}
-use Rattle.ring.specs.Clockwise.{key}
 use Rattle.ring.proofs.Tests.{split, and-left, and-right}
-use Rattle.rule.specs.Entry.{Entry, numbers, total, besideOf}
-use Rattle.rule.specs.Rooms.{fill}
+use Rattle.rule.specs.Entry.{Entry, total, besideOf}
 use Rattle.lent.proofs.Loops.{all-at, all-of}
 use Rattle.lent.specs.Table.{mostRelays, relayNumber, tabletNumber, tabletRelay}
 use Rattle.lent.specs.Placing.{roomAfter, relayFor, placedAt, placed}
 use Rattle.lent.proofs.Placed.{placed-there}
 use Rattle.meaning.specs.Meaning.{relaysIn, tabletsIn}
 use Rattle.meaning.specs.Ascending.{Ascending}
+use Rattle.meaning.specs.Rising.{Ruled}
 use Rattle.meaning.proofs.Places.{places-ext, beside-places}
 use Rattle.meaning.proofs.Choice.{first-beyond}
 use Rattle.meaning.proofs.Run.{seated, run-first, run-left, run-fill}
-
--- the limits suffice, and beside every tablet stands the rule's relay
-pub record Ruled (p : Positions) (rs ts : List ℕ) (n m : ℕ) : Type 0 where
-  pub enough : m ≤ total (relaysIn rs n)
-  pub filled : tabletsIn ts m ≡ fill (key p) (relaysIn rs n) (numbers (tabletsIn ts m))
 
 -- tablet j's relay is at one of the n places, and is the one written there
 pub record Found (p : Positions) (rs ts : List ℕ) (n j : ℕ) : Type 0 where

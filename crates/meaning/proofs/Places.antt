@@ -21,12 +21,11 @@ use Rattle.rule.specs.Entry.{Entry, entry, numbers, has, besideOf}
 use Rattle.rule.specs.Rule.{limitsFit, mostLimit}
 use Rattle.rule.specs.Rooms.{held}
 use Rattle.rule.specs.Stability.{Rising, Sits}
+use Rattle.rule.specs.Facts.{Among, Table}
 use Rattle.rule.proofs.Sets.{in-sits, sits-in}
-use Rattle.rule.proofs.Orders.{Among}
 use Rattle.rule.proofs.Counts.{sits-above}
 use Rattle.rule.proofs.Searches.{sits-among, among-sits}
 use Rattle.rule.proofs.Placing.{among-held, held-among}
-use Rattle.rule.proofs.Right.{Table}
 use Rattle.rule.proofs.Demand3.{has-in, in-has, beside-held}
 use Rattle.meaning.specs.Meaning.{places}
 use Rattle.meaning.specs.Ascending.{Ascending}
@@ -79,10 +78,10 @@ sits-places f b (suc n) x v i =
 
 pub ascending-next : {f : ℕ → ℕ} {n : ℕ} → Ascending f (suc n) → Ascending (next f) n
 ascending-next a =
-    record { up = λ i l h k. a .up (suc i) (suc l) (omega arith) (omega arith); some = λ i h. a .some (suc i) (omega arith); small = λ i h. a .small (suc i) (omega arith) }
+    record { up = λ i l h k. a .up (suc i) (suc l) (omega arith) (omega arith); numbered = λ i h. a .numbered (suc i) (omega arith); small = λ i h. a .small (suc i) (omega arith) }
 
 pub ascending-fewer : {f : ℕ → ℕ} {n : ℕ} (k : ℕ) → k ≤ n → Ascending f n → Ascending f k
-ascending-fewer k h a = record { up = λ i l u v. a .up i l u (omega arith); some = λ i u. a .some i (omega arith); small = λ i u. a .small i (omega arith) }
+ascending-fewer k h a = record { up = λ i l u v. a .up i l u (omega arith); numbered = λ i u. a .numbered i (omega arith); small = λ i u. a .small i (omega arith) }
 
 -- a number has one place
 pub ascending-apart : {f : ℕ → ℕ} {n : ℕ} → Ascending f n → (i l : ℕ) → i < n → l < n → f i ≡ f l → i ≡ l
@@ -101,7 +100,7 @@ rising-places f b (suc n) low h u =
 pub table-places : {f : ℕ → ℕ} {n : ℕ} (b : ℕ → ℕ) → Ascending f n → Table (places f b n)
 table-places {f} {n} b a =
     record {
-      up = rising-places f b n 0 (a .some) (a .up);
+      up = rising-places f b n 0 (a .numbered) (a .up);
       small = λ x i. let s : At f b n (x .number) (x .beside) = sits-places f b n (x .number) (x .beside) (among-sits (places f b n) x i) in
           omega (arith, s .number, a .small (s .at) (s .below));
     }
@@ -121,7 +120,7 @@ pub places-table : (f b : ℕ → ℕ) (n : ℕ) → Table (places f b n) → As
 places-table f b n t =
     record {
       up = places-rising f b n 0 (t .up);
-      some = λ i h. sits-above (places f b n) 0 (f i) (b i) (t .up) (places-sits f b n i h);
+      numbered = λ i h. sits-above (places f b n) 0 (f i) (b i) (t .up) (places-sits f b n i h);
       small = λ i h. t .small (entry (f i) (b i)) (sits-among (places f b n) (f i) (b i) (places-sits f b n i h));
     }
 

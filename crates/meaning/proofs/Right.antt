@@ -18,34 +18,20 @@ use Rattle.ring.proofs.Tests.{split, and-left, and-right}
 use Rattle.rule.specs.Entry.{Entry, load}
 use Rattle.rule.specs.Rule as Rule
 use Rattle.rule.specs.Rule.{mostLimit}
+use Rattle.rule.specs.Facts.{Right}
 use Rattle.rule.proofs.Right as Right
-use Rattle.rule.proofs.Right.{Table}
-use Rattle.lent.specs.Table.{mostRelays, relayPlaces, relayNumber, relayLimit, relayWhole, RelaysIn, mostTablets, tabletPlaces, tabletNumber, tabletRelay, tabletWhole, TabletsIn}
+use Rattle.lent.specs.Table.{mostRelays, relayPlaces, relayNumber, relayLimit, relayWhole, mostTablets, tabletPlaces, tabletNumber, tabletRelay, tabletWhole}
 use Rattle.lent.specs.Shape.{topNumber, relaysUsed, tabletsUsed, relayFits, tabletFits, relayShape, tabletShape, shape}
 use Rattle.lent.specs.Placing as Lent
 use Rattle.lent.proofs.Shaped.{used-most}
-use Rattle.meaning.specs.Meaning.{relaysIn, tabletsIn, ringOf, fitTables, tablesRight, Words}
-use Rattle.meaning.specs.Ascending.{Ascending}
+use Rattle.meaning.specs.Meaning.{tabletsIn, ringOf, fitTables, tablesRight, Words}
+use Rattle.meaning.specs.Rising.{Ruled, Rises}
 use Rattle.meaning.proofs.Places.{length-places, table-places, places-table, limits-places, places-limits}
 use Rattle.meaning.proofs.Words.{relay-number-word, tablet-number-word, tablet-relay-word, relay-beyond, tablet-beyond}
 use Rattle.meaning.proofs.Fit.{Fit, whole-relays, whole-tablets, right-fit, right-ruled}
 use Rattle.meaning.proofs.Shapes.{Shaped, shape-is, shape-from, rest-is, rest-from}
 use Rattle.meaning.proofs.Run.{run-room}
-use Rattle.meaning.proofs.Placed.{Ruled, Found, found-seated, placed-is, ruled-found, placed-from}
-
--- what right tables with n relays and m tablets give to a loop
-pub record Rises (p : Positions) (rs ts : List ℕ) (n m : ℕ) : Type 0 where
-  pub relaysFit : RelaysIn rs n
-  pub tabletsFit : TabletsIn ts m
-  pub relays : Ascending (relayNumber rs) n
-  pub tablets : Ascending (tabletNumber ts) m
-  pub limits : (i : ℕ) → i < n → relayLimit rs i ≤ mostLimit
-  pub relaysRest : (i : ℕ) → n ≤ i → (relayNumber rs i ≡ 0) × (relayLimit rs i ≡ 0)
-  pub tabletsRest : (j : ℕ) → m ≤ j → (tabletNumber ts j ≡ 0) × (tabletRelay ts j ≡ 0)
-  pub relayTable : Table (relaysIn rs n)
-  pub tabletTable : Table (tabletsIn ts m)
-  pub ruled : Ruled p rs ts n m
-  pub ring : Right.Right p (ringOf rs ts)
+use Rattle.meaning.proofs.Placed.{Found, found-seated, placed-is, ruled-found, placed-from}
 
 -- what both tests come to
 record Facts (p : Positions) (rs ts : List ℕ) (n m : ℕ) : Type 0 where
@@ -90,7 +76,7 @@ module _ (p : Positions) (rs ts : List ℕ) where
       )
       (placed-from p rs ts n m (facts-few f) (f .relays .numbers) (f .tablets .numbers) (f .ruled))
 
-  facts-ring : Facts p rs ts n m → Right.Right p (ringOf rs ts)
+  facts-ring : Facts p rs ts n m → Right p (ringOf rs ts)
   unfolding ringOf
   facts-ring f =
       record {
@@ -160,7 +146,7 @@ module _ (p : Positions) (rs ts : List ℕ) where
     rule-facts : Fit rs ts → Rule.right p (ringOf rs ts) ≡ true → Facts p rs ts n m
     unfolding ringOf
     rule-facts f e =
-        let r : Right.Right p (ringOf rs ts) = Right.right-is p (ringOf rs ts) e in
+        let r : Right p (ringOf rs ts) = Right.right-is p (ringOf rs ts) e in
         record {
           relaysFit = f .relays;
           tabletsFit = f .tablets;

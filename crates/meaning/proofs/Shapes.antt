@@ -54,7 +54,7 @@ module _ (top : ℕ) (f b : ℕ → ℕ) (n most : ℕ) where
   shape-is w e =
       let up : (i : ℕ) → i < n → previous f i < f i = λ i k. shape-entry top f b n most e i k .0 in
       record {
-        numbers = record { up = rises f n up; some = λ i k. omega (arith, up i k); small = λ i k. w i };
+        numbers = record { up = rises f n up; numbered = λ i k. omega (arith, up i k); small = λ i k. w i };
         beside = λ i k. shape-entry top f b n most e i k .1;
         rest = shape-rest top f b n most e;
       }
@@ -69,5 +69,5 @@ module _ (top : ℕ) (f b : ℕ → ℕ) (n most : ℕ) where
       )
     where
       above : (i : ℕ) → i < n → previous f i < f i
-      above zero h = unfold previous in (s .numbers .some 0 h)
+      above zero h = unfold previous in (s .numbers .numbered 0 h)
       above (suc i) h = unfold previous in (s .numbers .up i (suc i) (omega arith) h)

@@ -4,5 +4,5 @@ use Prim.Native.Nat.{ℕ, _^_, _<_}
 -- the numbers of the first n places are 32-bit numbers from 1 that rise
 pub record Ascending (number : ℕ → ℕ) (n : ℕ) : Type 0 where
   pub up : (i l : ℕ) → i < l → l < n → number i < number l
-  pub some : (i : ℕ) → i < n → 0 < number i
+  pub numbered : (i : ℕ) → i < n → 0 < number i
   pub small : (i : ℕ) → i < n → number i < 2 ^ 32

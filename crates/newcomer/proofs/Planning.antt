@@ -22,7 +22,7 @@ use Rattle.rule.proofs.Accepted.{bar-passed}
 use Rattle.lent.specs.Table.{tabletNumber, tabletRelay, tabletPlaces}
 use Rattle.survey.specs.declared.Survey.{Survey}
 use Rattle.meaning.specs.Meaning.{tabletsIn, ringOf, lentOf}
-use Rattle.meaning.proofs.Right.{Rises}
+use Rattle.meaning.specs.Rising.{Rises}
 use Rattle.spot.specs.Spot.{Spot}
 use Rattle.write.specs.Tables.{relayTable}
 use Rattle.meaning.proofs.Places.{has-place}

@@ -26,9 +26,9 @@ use Rattle.rule.specs.Calls.{move, wrongNumbers, edited, moves, relayOf, passed
 use Rattle.rule.specs.Calls as Calls
 use Rattle.rule.specs.Sweeps.{seated, seats, turn, newcomer}
 use Rattle.rule.specs.Stability.{Rising, In}
-use Rattle.rule.proofs.Moves.{tabletsOf}
+use Rattle.rule.specs.Facts.{Right}
+use Rattle.rule.specs.Moves.{tabletsListed}
 use Rattle.rule.proofs.Counts.{length-insert}
-use Rattle.rule.proofs.Right.{Right}
 use Rattle.rule.proofs.Demand3.{in-has}
 use Rattle.rule.proofs.Listing.{Chain}
 use Rattle.rule.proofs.Outcomes.{enrol-chain, enrol-after, enrol-moves, enrol-relay, enrol-passed}
@@ -39,11 +39,12 @@ use Rattle.survey.specs.declared.Survey.{Survey}
 use Rattle.row.specs.Row.{slotRoom, Leads, Row}
 use Rattle.row.proofs.Leading.{leads-at}
 use Rattle.meaning.specs.Meaning.{places, relaysIn, tabletsIn, ringOf, lentOf}
+use Rattle.meaning.specs.Rising.{Rises}
 use Rattle.meaning.proofs.Choice.{roomed}
 use Rattle.meaning.proofs.Places.{length-places}
 use Rattle.meaning.proofs.More.{total-more}
 use Rattle.meaning.proofs.Run.{run-left}
-use Rattle.meaning.proofs.Right.{Rises, right-room}
+use Rattle.meaning.proofs.Right.{right-room}
 use Rattle.slots.specs.Slots.{slotAt, stepsTo, roundNumber, roundLimit, round}
 use Rattle.slots.proofs.Steps.{slot-inside, steps-inside, slot-steps, steps-slot, ahead-steps}
 use Rattle.slots.proofs.Lists.{upTo-places, first-places}
@@ -274,8 +275,8 @@ module _ {s : ℕ} {rs ts : List ℕ} {n m : ℕ} {v : Survey} (b : Start s rs t
             others-moves =
                 ap (λ (g : Ring). moves p g (Enrol t)) (start-ring b) ∙ enrol-moves p ring right t some-number not-in many f the-first ∙ the-rest
 
-            pub others-above : Rising x (tabletsOf (othersOf x rs ts place seat c))
-            others-above = subst (λ (z : List Move). Rising x (tabletsOf z)) the-rest (chain .up)
+            pub others-above : Rising x (tabletsListed (othersOf x rs ts place seat c))
+            others-above = subst (λ (z : List Move). Rising x (tabletsListed z)) the-rest (chain .up)
 
             pub first-relay : relayOf p (ringOf rs ts) (Enrol t) ≡ relayNumber rs (getD seat 0 0)
             first-relay =

@@ -17,7 +17,7 @@ use Rattle.rule.specs.Calls.{passed, moves, relayOf, refusal}
 use Rattle.rule.specs.Calls as Calls
 use Rattle.rule.specs.Sweeps.{seated}
 use Rattle.rule.specs.Stability.{Rising}
-use Rattle.rule.proofs.Moves.{tabletsOf}
+use Rattle.rule.specs.Moves.{tabletsListed}
 use Rattle.lent.specs.Table.{relayPlaces, tabletPlaces, relayNumber, tabletNumber, tabletRelay, tabletWhole}
 use Rattle.nearest.specs.Nearest.{Nearest}
 use Rattle.row.specs.Row.{slotRoom, Leads}
@@ -60,7 +60,7 @@ pub record Seatable (rs ts ms place seat : List ℕ) (m others : ℕ) : Type 0 w
 pub record Worked (scheme : ℕ) (rs ts ms : List ℕ) (t : TabletNumber) (m at : ℕ) (c : Chain) : Type 0 where
   pub seatable : Seatable rs ts ms (c .place) (c .seat) m (c .others)
   pub short : c .steps < 256
-  pub above : Rising (t .0) (tabletsOf (othersOf (t .0) rs ts (c .place) (c .seat) (c .others)))
+  pub above : Rising (t .0) (tabletsListed (othersOf (t .0) rs ts (c .place) (c .seat) (c .others)))
   pub unused : m < tabletPlaces ts
   pub place : Place (tabletNumber ts) m (t .0) at
   pub whole : tabletWhole ts ≡ true

@@ -31,8 +31,8 @@ use Rattle.rule.proofs.Accepted.{Edited, edited-tables, after-fill}
 use Rattle.lent.specs.Table.{mostTablets, mostRelays, relayPlaces, relayWhole, relayNumber, relayLimit, RelaysIn, tabletNumber, tabletRelay}
 use Rattle.meaning.specs.Meaning.{places, relaysIn, tabletsIn, ringOf, lentOf}
 use Rattle.meaning.specs.Ascending.{Ascending}
+use Rattle.meaning.specs.Rising.{Rises}
 use Rattle.meaning.proofs.Places.{places-ext, length-places, places-table, places-limits}
-use Rattle.meaning.proofs.Right.{Rises}
 use Rattle.meaning.proofs.Run.{run-fill}
 use Rattle.write.specs.Tables.{flat, filled, relayTable, tabletTable, listed}
 use Rattle.write.proofs.Filled.{length-flat, tablets-table}

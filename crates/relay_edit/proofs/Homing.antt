@@ -16,8 +16,8 @@ use Rattle.order.specs.Keys.{ringKey, slotRelay, Slot}
 use Rattle.survey.specs.Seats.{Surveyed}
 use Rattle.meaning.specs.Meaning.{relaysIn}
 use Rattle.meaning.specs.Ascending.{Ascending}
+use Rattle.meaning.specs.Rising.{Rises}
 use Rattle.meaning.proofs.Words.{tablet-number-word}
-use Rattle.meaning.proofs.Right.{Rises}
 use Rattle.write.specs.Wrote.{WroteRelays, Place}
 use Rattle.place.specs.Places.{SetBeside}
 use Rattle.write.specs.Places.{TookOut}
@@ -77,7 +77,7 @@ module _ {s : ℕ} {rs ts : List ℕ} {x n m at : ℕ} {there : Bool} {around : 
     own-ascends : Ascending (relayNumber own) n
     own-ascends = record {
       up = λ i l h k. rw (copied-number cp i, copied-number cp l) (rises .relays .up i l h k);
-      some = λ i h. rw (copied-number cp i) (rises .relays .some i h);
+      numbered = λ i h. rw (copied-number cp i) (rises .relays .numbered i h);
       small = λ i h. rw (copied-number cp i) (rises .relays .small i h);
     }
 

@@ -19,8 +19,8 @@ use Rattle.rule.specs.Rule.{Ring}
 use Rattle.rule.specs.Calls.{edited}
 use Rattle.lent.specs.Table.{mostRelays, relayPlaces, relayWhole, relayNumber, relayLimit}
 use Rattle.meaning.specs.Meaning.{relaysIn, ringOf}
+use Rattle.meaning.specs.Rising.{Rises}
 use Rattle.meaning.proofs.Words.{relay-number-word}
-use Rattle.meaning.proofs.Right.{Rises}
 use Rattle.write.specs.Tables.{flat, filled}
 use Rattle.write.specs.Wrote.{WroteRelays, Place, Climbs}
 use Rattle.write.specs.Places.{TookOut, Zeros}

@@ -18,6 +18,7 @@ use Rattle.rule.specs.Rule as Rule
 use Rattle.rule.specs.Rule.{Ring}
 use Rattle.rule.specs.Refusals.{isDone, firstBar}
 use Rattle.rule.specs.Stability.{Rising}
+use Rattle.rule.specs.Facts.{Right}
 use Rattle.rule.proofs.Right as Right
 use Rattle.lent.specs.Table.{mostRelays, relayPlaces, relayNumber, relayLimit, relayWhole, mostTablets, tabletPlaces, tabletNumber, tabletRelay, tabletWhole}
 use Rattle.lent.specs.Shape.{used, relaysUsed, tabletsUsed, relayFits, tabletFits}
@@ -131,7 +132,7 @@ module _ (s : ℕ) (es fs : List Entry) (few : length es ≤ mostRelays) (fewer 
       let et : tabletsUsed ts ≡ m = eqb-true _ _ (and-right k₂ k₃ e₁) ∙ tablet-places in
       let t : Rule.right (positions s) ring ≡ true =
       ap (Rule.right (positions s)) (sym (full-ring er et)) ∙ right-ruled rs ts s (and-left k₁ (k₂ && k₃) e) in
-      let r : Right.Right (positions s) ring = Right.right-is (positions s) ring t in
+      let r : Right (positions s) ring = Right.right-is (positions s) ring t in
       rw (rising-numbered 0 es (r .relays .up), rising-numbered 0 fs (r .tablets .up), t)
 
   full-from : ringRight s ring ≡ true → fullTables s rs ts ≡ true
@@ -141,11 +142,11 @@ module _ (s : ℕ) (es fs : List Entry) (few : length es ≤ mostRelays) (fewer 
       let k₂ : Bool = numbered fs in
       let k₃ : Bool = Rule.right (positions s) ring in
       let t : k₃ ≡ true = and-right k₂ k₃ (and-right k₁ (k₂ && k₃) e) in
-      let r : Right.Right (positions s) ring = Right.right-is (positions s) ring t in
+      let r : Right (positions s) ring = Right.right-is (positions s) ring t in
       let ar : Ascending (relayNumber rs) n = places-table (relayNumber rs) (relayLimit rs) n (rw relay-entries (r .relays)) in
       let at : Ascending (tabletNumber ts) m = places-table (tabletNumber ts) (tabletRelay ts) m (rw tablet-entries (r .tablets)) in
-      let er : relaysUsed rs ≡ n = ap (used (relayNumber rs)) relay-places ∙ used-all (relayNumber rs) n (ar .some) in
-      let et : tabletsUsed ts ≡ m = ap (used (tabletNumber ts)) tablet-places ∙ used-all (tabletNumber ts) m (at .some) in
+      let er : relaysUsed rs ≡ n = ap (used (relayNumber rs)) relay-places ∙ used-all (relayNumber rs) n (ar .numbered) in
+      let et : tabletsUsed ts ≡ m = ap (used (tabletNumber ts)) tablet-places ∙ used-all (tabletNumber ts) m (at .numbered) in
       rw (full-fit er et, full-ring er et, t, eq-eqb (relaysUsed rs) (relayPlaces rs) (er ∙ sym relay-places), eq-eqb (tabletsUsed ts) (tabletPlaces ts) (et ∙ sym tablet-places))
 
   pub full-content : fullTables s rs ts ≡ ringRight s ring

@@ -15,20 +15,15 @@ use Rattle.ring.specs.Clockwise.{key}
 use Rattle.ring.specs.Scheme.{known, Positions, positions}
 use Rattle.ring.proofs.Tests.{and-left, and-right}
 use Rattle.rule.specs.Entry.{Entry, numbers, total}
-use Rattle.rule.specs.Rule.{Ring, placement, rising, limitsFit, right}
+use Rattle.rule.specs.Rule.{Ring, placement, rising, right}
 use Rattle.rule.specs.Rooms.{fill}
 use Rattle.rule.specs.Refusals.{isDone, firstBar}
+use Rattle.rule.specs.Facts.{Table, Right}
 use Rattle.rule.proofs.Placing.{placement-fill}
-use Rattle.rule.proofs.Right.{Table, Right, table-is, right-is, right-from, placed-is, length-numbers}
+use Rattle.rule.proofs.Right.{table-is, right-is, right-from, placed-is, length-numbers}
 use Rattle.layout.specs.Roster.{shapeRight, relayCount, tabletCount, rosterScheme, rosterRing}
-use Rattle.roster.specs.Content.{numbered, ringRight, contentRight, tablesFit}
+use Rattle.roster.specs.Content.{numbered, ringRight, contentRight, tablesFit, Entries}
 use Rattle.roster.specs.Reading.{refusal}
-
--- entries that rise by number from 1, with limits within bounds
-pub record Entries (g : Ring) : Type 0 where
-  pub relays : rising 0 (g .relays) ≡ true
-  pub limits : limitsFit (g .relays) ≡ true
-  pub tablets : rising 0 (g .tablets) ≡ true
 
 -- numbers that rise are not zero
 rising-numbered : (low : ℕ) (es : List Entry) → rising low es ≡ true → numbered es ≡ true

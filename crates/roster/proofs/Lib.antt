@@ -7,3 +7,4 @@ pub mod Outcomes
 pub mod Taking
 pub mod Exactly
 pub mod Unchanged
+pub mod Turns

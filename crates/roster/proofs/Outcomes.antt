@@ -22,9 +22,9 @@ use Rattle.promise.specs.Promise.{Answers}
 use Rattle.promise.proofs.Binding as Promise
 use Rattle.write.specs.Tables.{flat, relayTable, tabletTable}
 use Rattle.layout.specs.declared.Trailer.{Trailer}
-use Rattle.layout.specs.Roster.{shapeRight, rosterScheme, entryBytes, block, rosterRing}
+use Rattle.layout.specs.Roster.{shapeRight, rosterScheme, entryBytes, block, rosterRing, Shape}
 use Rattle.layout.specs.Opened.{trailerOf}
-use Rattle.layout.proofs.Trailers.{Says, trailer-right, trailer-says, Shape, shape-is, shape-ring}
+use Rattle.layout.proofs.Trailers.{Says, trailer-right, trailer-says, shape-is, shape-ring}
 use Rattle.layout.proofs.Rows.{block-length}
 use Rattle.roster.specs.declared.Reading.{Reading}
 use Rattle.roster.specs.Content.{contentRight, tablesFit}

@@ -1,27 +1,39 @@
 -- Reading a roster (document 01, "Roster file", "Replies"): the full reply and every lent place afterwards. Assumes nothing.
-use mathlib.Core.Bool.{not}
+use mathlib.Core.Bool.{not, cond}
 use mathlib.Core.List.{List, [], _∷_}
-use Prim.Native.Nat.{ℕ}
+use Prim.Native.Nat.{ℕ, suc}
+use lib.Dec.{eqb}
 use lib.ListN.{length}
 use Rattle.ring.specs.Scheme.{known}
 use Rattle.rule.specs.declared.Refusal.{Refusal}
 use Rattle.rule.specs.declared.Refusal.the-variants.{Done, SchemeUnknown, RosterShapeWrong, RosterContentWrong, OutputUnfit}
-use Rattle.rule.specs.Refusals.{bareReply, bar, firstBar}
+use Rattle.rule.specs.Refusals.{numberOf, bareReply, Bar, bar, firstBar}
 use Rattle.promise.specs.Promise.{After, settled}
 use Rattle.write.specs.Tables.{relayTable, tabletTable}
 use Rattle.layout.specs.Roster.{shapeRight, relayCount, tabletCount, rosterScheme, rosterRing}
 use Rattle.roster.specs.declared.Reading.{Reading}
 use Rattle.roster.specs.Content.{contentRight, tablesFit}
 
--- in the order 10, 1, 12, 11
-unfoldable pub refusal : List ℕ → List ℕ → List ℕ → Refusal
-refusal b rs ts =
-    firstBar
-    (bar (not (shapeRight b)) RosterShapeWrong
+abbrev pub readingBars : List ℕ → List ℕ → List ℕ → List Bar
+readingBars b rs ts =
+    bar (not (shapeRight b)) RosterShapeWrong
     ∷ bar (not (known (rosterScheme b))) SchemeUnknown
     ∷ bar (not (tablesFit (relayCount b) (tabletCount b) rs ts)) OutputUnfit
     ∷ bar (not (contentRight b)) RosterContentWrong
-    ∷ [])
+    ∷ []
+
+-- in the order 10, 1, 12, 11
+unfoldable pub refusal : List ℕ → List ℕ → List ℕ → Refusal
+refusal b rs ts = firstBar (readingBars b rs ts)
+
+-- how many of these numbers stand ahead of that one
+unfoldable pub aheadIn : List ℕ → ℕ → ℕ
+aheadIn [] n = 0
+aheadIn (x ∷ xs) n = cond (eqb x n) 0 (suc (aheadIn xs n))
+
+-- a refusal's turn, from 1
+abbrev pub turnOf : Refusal → ℕ
+turnOf r = suc (aheadIn (10 ∷ 1 ∷ 12 ∷ 11 ∷ []) (numberOf r))
 
 -- the roster's entries, zeros in every place left over, and the trailer's scheme
 unfoldable pub taken : List ℕ → List ℕ → List ℕ → After Reading (List ℕ × List ℕ)

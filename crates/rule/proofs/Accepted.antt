@@ -27,12 +27,13 @@ use Rattle.rule.specs.Refusals.{isDone, Bar, bar, firstBar}
 use Rattle.rule.specs.Calls.{Lent, subject, edited, orNobody, after, moves, wrongNumbers, refusal, accepted, declined, outcome}
 use Rattle.rule.specs.Rooms.{fill}
 use Rattle.rule.specs.Stability.{Rising, In}
+use Rattle.rule.specs.Facts.{Among, Small, Table, Right}
+use Rattle.rule.specs.Applying.{Accepted}
 use Rattle.rule.proofs.Stable.{numbers-fill}
 use Rattle.rule.proofs.Puts.{numbers-put}
 use Rattle.rule.proofs.Sets.{in-insert, in-delete, rising-insert, rising-delete}
-use Rattle.rule.proofs.Orders.{Among, Small}
 use Rattle.rule.proofs.Placing.{placement-fill}
-use Rattle.rule.proofs.Right.{Table, Right, right-is, right-from, length-numbers}
+use Rattle.rule.proofs.Right.{right-is, right-from, length-numbers}
 use Rattle.rule.proofs.Demand3.{in-has}
 
 -- ---- refusals one by one
@@ -50,14 +51,6 @@ chain-passed r bs h =
     split (isDone r)
     (λ s. (s, rw (s, firstBar) at h))
     (λ s. absurd (true-false (sym (rw (s, firstBar) at h) ∙ s)))
-
-pub record Accepted (p : Positions) (m : Lent) (g : Ring) (c : Call) : Type 0 where
-  pub known : m .known ≡ true
-  pub fit : m .fit ≡ true
-  pub tables : right p g ≡ true
-  pub numbers : isDone (firstBar (wrongNumbers m g c)) ≡ true
-  pub enough : length (edited g c .tablets) ≤ total (edited g c .relays)
-  pub list : length (moves p g c) ≤ m .movePlaces
 
 module _ (p : Positions) (m : Lent) (g : Ring) (c : Call) where
   abbrev bars₅ : List Bar

@@ -16,10 +16,12 @@ use Rattle.rule.specs.Entry.{Entry, numbers, has, besideOf}
 use Rattle.rule.specs.Rule.{Ring, right}
 use Rattle.rule.specs.Rooms.{held, fill}
 use Rattle.rule.specs.Stability.{Rising, In, Sits}
+use Rattle.rule.specs.Facts.{Right}
+use Rattle.rule.specs.Sets.{Roomier}
 use Rattle.rule.proofs.Counts.{sits-above}
 use Rattle.rule.proofs.Nearer.{nearer}
 use Rattle.rule.proofs.Exists.{held-above}
-use Rattle.rule.proofs.Right.{Right, right-is, right-stable, held-small, length-numbers}
+use Rattle.rule.proofs.Right.{right-is, right-stable, held-small, length-numbers}
 
 -- ---- what a table has
 
@@ -65,12 +67,6 @@ sits-beside (e ∷ es) low n v up i =
     (λ s. rw s (⊎-elim (λ u. absurd (eqb-false (e .number) n s (u .0))) (λ j. sits-beside es (e .number) n v (up .1) j) i))
 
 -- ---- the demand
-
--- each relay of the first is on the second with at least its limit, and each tablet of the second is on the first
-pub record Roomier (g₁ g₂ : Ring) : Type 0 where
-  pub there : (r : ℕ) → has (g₁ .relays) r ≡ true → has (g₂ .relays) r ≡ true
-  pub limits : (r : ℕ) → has (g₁ .relays) r ≡ true → besideOf (g₁ .relays) r ≤ besideOf (g₂ .relays) r
-  pub tablets : (t : ℕ) → has (g₂ .tablets) t ≡ true → has (g₁ .tablets) t ≡ true
 
 -- a tablet's relay is a 32-bit number
 seated-small : (p : Positions) (g : Ring) → Right p g → (t : ℕ) → has (g .tablets) t ≡ true → besideOf (g .tablets) t < 2 ^ 32

@@ -20,8 +20,9 @@ use Rattle.rule.specs.Refusals.{isDone}
 use Rattle.rule.specs.Calls.{Lent, subject, edited, after, moves, refusal}
 use Rattle.rule.specs.Rooms.{held}
 use Rattle.rule.specs.Stability.{Rising, Stable}
+use Rattle.rule.specs.Facts.{Right}
 use Rattle.rule.proofs.Sets.{rising-delete}
-use Rattle.rule.proofs.Right.{Right, right-stable, stable-right}
+use Rattle.rule.proofs.Right.{right-stable, stable-right}
 use Rattle.rule.proofs.Demand3.{beside-held, held-has, sits-beside}
 use Rattle.rule.proofs.Accepted.{accepted-is, Edited, after-fill}
 use Rattle.rule.proofs.Moves.{moved-none}

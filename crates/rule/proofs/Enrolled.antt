@@ -21,15 +21,16 @@ use Rattle.rule.specs.Rule.{Ring, hasRoom, placement}
 use Rattle.rule.specs.Walks.{satDown, greatest, stops, behind, walk, enrolled}
 use Rattle.rule.specs.Rooms.{held, fill, choose, orZero}
 use Rattle.rule.specs.Stability.{Rising, In, Sits, lower, Fair}
+use Rattle.rule.specs.Facts.{Among, Sorted, Table, Right}
 use Rattle.rule.proofs.Counts.{at, length-insert, length-delete, above, above-fewer, count-length}
 use Rattle.rule.proofs.Sets.{rising-insert}
 use Rattle.rule.proofs.Exists.{left, fair-exists}
 use Rattle.rule.proofs.Enrolment.{Walk, walk-start, walk-evict, walk-settle, evict-open}
 use Rattle.rule.proofs.Withdrawal.{load-held}
-use Rattle.rule.proofs.Orders.{Among, Sorted, first-some, first-found, first-least, order-in, in-order, order-sorted}
+use Rattle.rule.proofs.Orders.{first-some, first-found, first-least, order-in, in-order, order-sorted}
 use Rattle.rule.proofs.Placing.{among-held, held-among, placement-fill}
 use Rattle.rule.proofs.Searches.{greatest-sits, greatest-top, stops-lower, lower-stops, stops-full, behind-in, behind-sorted, in-behind}
-use Rattle.rule.proofs.Right.{Table, Right, right-stable, held-small, length-numbers}
+use Rattle.rule.proofs.Right.{right-stable, held-small, length-numbers}
 
 module _ (p : Positions) (rs : List Entry) (t : Table rs) (p₀ : List Entry) (x : ℕ) where
   record Walking (steps : ℕ) (es : List Entry) (w : ℕ) (ahead : List Entry) : Type 0 where

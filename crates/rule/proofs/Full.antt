@@ -19,9 +19,10 @@ use Rattle.rule.specs.Entry.{Entry, entry, has, besideOf, load, upTo}
 use Rattle.rule.specs.Order.{order}
 use Rattle.rule.specs.Rule.{Ring, full, hasRoom}
 use Rattle.rule.specs.Walks.{hadPassed}
-use Rattle.rule.proofs.Orders.{Among, Sorted, order-in, in-order, order-sorted}
+use Rattle.rule.specs.Facts.{Among, Sorted, Right}
+use Rattle.rule.proofs.Orders.{order-in, in-order, order-sorted}
 use Rattle.rule.proofs.Placing.{among-held, held-among}
-use Rattle.rule.proofs.Right.{Right, right-stable, right-loads}
+use Rattle.rule.proofs.Right.{right-stable, right-loads}
 use Rattle.rule.proofs.Searches.{sits-among}
 use Rattle.rule.proofs.Demand3.{has-sits}
 use Rattle.rule.proofs.Holing.{room-passed}

@@ -1,6 +1,6 @@
 -- Who came first plays no part: the tables depend on the sets alone.
---   run-right      right tables stay right over any run of calls
---   history-free   two runs that end in the same sets end in the same tables
+--   run-right      right tables stay right over any run of calls, by the positions of the last that is accepted
+--   history-free   two runs that end in the same sets, and go by the same positions, end in the same tables
 -- Assumes nothing.
 use mathlib.Core.Bool.{true}
 use mathlib.Core.Path.{_≡_, refl, sym, ap, _∙_}
@@ -11,36 +11,40 @@ use native.Mathlib.Omega.{arith}
 use borrow.Author.Tests.{eq-eqb, ne-eqb}
 use Rattle.ring.specs.Scheme.{Positions}
 use Rattle.ring.specs.Clockwise.{key}
+use Rattle.ring.proofs.Tests.{split}
 use Rattle.rule.specs.Entry.{Entry, numbers, has, besideOf}
 use Rattle.rule.specs.Rule.{Ring, right}
-use Rattle.rule.specs.Calls.{subject}
-use Rattle.rule.specs.Tally.{Step, Station, step, run}
+use Rattle.rule.specs.Refusals.{isDone}
+use Rattle.rule.specs.Calls.{subject, refusal, accepted, declined}
+use Rattle.rule.specs.Tally.{Step, Station, step, run, goesBy, goneBy, Fit}
 use Rattle.rule.specs.Rooms.{fill}
 use Rattle.rule.specs.Stability.{Rising, In}
+use Rattle.rule.specs.Facts.{Right}
+use Rattle.rule.specs.Sets.{SameSets}
 use Rattle.rule.proofs.Sets.{rising-in, rising-ext}
-use Rattle.rule.proofs.Right.{Right, right-is}
+use Rattle.rule.proofs.Right.{right-is}
 use Rattle.rule.proofs.Demand3.{has-in, in-has}
-use Rattle.rule.proofs.Accepted.{outcome-right}
+use Rattle.rule.proofs.Accepted.{accepted-is, outcome-declined, outcome-right}
 
 -- ---- runs
 
--- every call is about a 32-bit number
-abbrev pub Fit : List Step → Type 0
-Fit [] = Unit {0}
-Fit (c ∷ cs) = (subject (c .call) < 2 ^ 32) × Fit cs
+-- tables that are right stay right, by the positions of the last call that is accepted
+module _ (p : Positions) (s : Station) (c : Step) (small : subject (c .call) < 2 ^ 32) (ok : right p (s .ring) ≡ true) where
+  pub step-right : right (goesBy p s c) (step s c .ring) ≡ true
+  unfolding step goesBy accepted declined
+  step-right =
+      split (isDone (refusal (c .positions) (c .lent) (s .ring) (c .call)))
+      (λ d.
+      let a : right (c .positions) (s .ring) ≡ true = accepted-is (c .positions) (c .lent) (s .ring) (c .call) d .tables in
+      rw (d, goesBy) (outcome-right (c .positions) (c .lent) (s .ring) (c .call) small a))
+      (λ d. rw (d, goesBy, outcome-declined (c .positions) (c .lent) (s .ring) (c .call) d) ok)
 
-pub run-right : (p : Positions) (s : Station) (cs : List Step) → Fit cs → right p (s .ring) ≡ true → right p (run p s cs .ring) ≡ true
-unfolding run step
+pub run-right : (p : Positions) (s : Station) (cs : List Step) → Fit cs → right p (s .ring) ≡ true → right (goneBy p s cs) (run s cs .ring) ≡ true
+unfolding run goneBy
 run-right p s [] f r = r
-run-right p s (c ∷ cs) f r = run-right p (step p s c) cs (f .1) (outcome-right p (c .lent) (s .ring) (c .call) (f .0) r)
+run-right p s (c ∷ cs) f r = run-right (goesBy p s c) (step s c) cs (f .1) (step-right p s c (f .0) r)
 
 -- ---- the same sets
-
--- the same relays with the same limits, and the same tablets
-pub record SameSets (g₁ g₂ : Ring) : Type 0 where
-  pub relays : (r : ℕ) → has (g₁ .relays) r ≡ has (g₂ .relays) r
-  pub limits : (r : ℕ) → besideOf (g₁ .relays) r ≡ besideOf (g₂ .relays) r
-  pub tablets : (t : ℕ) → has (g₁ .tablets) t ≡ has (g₂ .tablets) t
 
 -- entries with rising numbers are told by their numbers and what stands beside each
 entries-ext : (es fs : List Entry) (low : ℕ) → Rising low (numbers es) → numbers es ≡ numbers fs → ((n : ℕ) → In n (numbers es) → besideOf es n ≡ besideOf fs n) → es ≡ fs
@@ -75,6 +79,6 @@ same-tables p g₁ g₂ t₁ t₂ s =
 
 -- whatever calls led there
 pub history-free : (p : Positions) (s₁ s₂ : Station) (cs₁ cs₂ : List Step) → Fit cs₁ → Fit cs₂ → right p (s₁ .ring) ≡ true → right p (s₂ .ring) ≡ true
-    → SameSets (run p s₁ cs₁ .ring) (run p s₂ cs₂ .ring) → run p s₁ cs₁ .ring ≡ run p s₂ cs₂ .ring
-history-free p s₁ s₂ cs₁ cs₂ f₁ f₂ t₁ t₂ same =
-    same-tables p (run p s₁ cs₁ .ring) (run p s₂ cs₂ .ring) (run-right p s₁ cs₁ f₁ t₁) (run-right p s₂ cs₂ f₂ t₂) same
+    → goneBy p s₁ cs₁ ≡ goneBy p s₂ cs₂ → SameSets (run s₁ cs₁ .ring) (run s₂ cs₂ .ring) → run s₁ cs₁ .ring ≡ run s₂ cs₂ .ring
+history-free p s₁ s₂ cs₁ cs₂ f₁ f₂ t₁ t₂ e same =
+    same-tables (goneBy p s₂ cs₂) (run s₁ cs₁ .ring) (run s₂ cs₂ .ring) (rw (← e) (run-right p s₁ cs₁ f₁ t₁)) (run-right p s₂ cs₂ f₂ t₂) same

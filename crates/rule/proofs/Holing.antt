@@ -24,15 +24,15 @@ use Rattle.rule.specs.Walks.{hadPassed}
 use Rattle.rule.specs.Sweeps.{seated, holes}
 use Rattle.rule.specs.Rooms.{held, fill}
 use Rattle.rule.specs.Stability.{Rising, Sits, Fair}
+use Rattle.rule.specs.Facts.{Among, Table, Right}
 use Rattle.rule.proofs.Counts.{lower-load, sits-above, sits-insert, insert-sits, sits-delete, delete-sits}
 use Rattle.rule.proofs.Sets.{sits-in, rising-delete}
 use Rattle.rule.proofs.Puts.{insert-delete}
 use Rattle.rule.proofs.Chain.{later}
 use Rattle.rule.proofs.Withdrawal.{Gap, gap-start, gap-step, gap-end}
-use Rattle.rule.proofs.Orders.{Among}
 use Rattle.rule.proofs.Placing.{among-above}
 use Rattle.rule.proofs.Searches.{sits-among, among-sits}
-use Rattle.rule.proofs.Right.{Table, Right, right-stable, held-small}
+use Rattle.rule.proofs.Right.{right-stable, held-small}
 use Rattle.rule.proofs.Demand3.{has-sits}
 
 -- ---- one step

@@ -21,19 +21,21 @@ use Rattle.rule.specs.Calls.{move, moved}
 use Rattle.rule.specs.Walks.{greatest, hadPassed}
 use Rattle.rule.specs.Sweeps.{seated, Turn, seats, turn, holes}
 use Rattle.rule.specs.Stability.{Rising, In, Sits}
+use Rattle.rule.specs.Facts.{Among, Distinct}
+use Rattle.rule.specs.Moves.{Listed, tabletsListed}
 use Rattle.rule.proofs.Sets.{sits-in, insert-in, rising-low, rising-insert, rising-delete}
 use Rattle.rule.proofs.Counts.{sits-above, sits-insert, sits-delete}
 use Rattle.rule.proofs.Puts.{numbers-put, put-inserted}
-use Rattle.rule.proofs.Orders.{Among, option-some, option-apart}
+use Rattle.rule.proofs.Orders.{option-some, option-apart}
 use Rattle.rule.proofs.Searches.{greatest-sits}
 use Rattle.rule.proofs.Demand3.{has-in, in-has, sits-beside}
-use Rattle.rule.proofs.Moves.{Listed, tabletsOf, Moves, moved-is, moved-all, moved-rising}
-use Rattle.rule.proofs.Turning.{Distinct, upTo-stop, upTo-go, turn-none, turn-more, turnAt-yes, turnAt-no, displacedBy}
+use Rattle.rule.proofs.Moves.{Moves, moved-is, moved-all, moved-rising}
+use Rattle.rule.proofs.Turning.{upTo-stop, upTo-go, turn-none, turn-more, turnAt-yes, turnAt-no, displacedBy}
 use Rattle.rule.proofs.Holing.{holes-take, holes-pass}
 
 -- ---- move lists by rising tablet
 
-listed-above : (l : List Move) (low : ℕ) → Rising low (tabletsOf l) → (m : Move) → Listed m l → low < m .tablet .0
+listed-above : (l : List Move) (low : ℕ) → Rising low (tabletsListed l) → (m : Move) → Listed m l → low < m .tablet .0
 listed-above [] low up m i = absurd i
 listed-above (x ∷ l) low up m (inl u) = omega (arith, up .0, ap (λ (z : Move). z .tablet .0) u)
 listed-above (x ∷ l) low up m (inr i) = omega (arith, up .0, listed-above l (x .tablet .0) (up .1) m i)
@@ -42,12 +44,12 @@ listed-behind : (x : Move) (l : List Move) (m : Move) → Listed m (x ∷ l) →
 listed-behind x l m (inl u) h = absurd (omega (arith, ap (λ (z : Move). z .tablet .0) u))
 listed-behind x l m (inr i) h = i
 
-listed-least : (x : Move) (l : List Move) → Rising (x .tablet .0) (tabletsOf l) → (m : Move) → Listed m (x ∷ l) → x .tablet .0 ≤ m .tablet .0
+listed-least : (x : Move) (l : List Move) → Rising (x .tablet .0) (tabletsListed l) → (m : Move) → Listed m (x ∷ l) → x .tablet .0 ≤ m .tablet .0
 listed-least x l up m (inl u) = omega (arith, ap (λ (z : Move). z .tablet .0) u)
 listed-least x l up m (inr i) = omega (arith, listed-above l (x .tablet .0) up m i)
 
 -- two lists of the same moves are one
-moves-ext : (k l : List Move) (low : ℕ) → Rising low (tabletsOf k) → Rising low (tabletsOf l) → ((m : Move) → Listed m k → Listed m l) → ((m : Move) → Listed m l → Listed m k) → k ≡ l
+moves-ext : (k l : List Move) (low : ℕ) → Rising low (tabletsListed k) → Rising low (tabletsListed l) → ((m : Move) → Listed m k → Listed m l) → ((m : Move) → Listed m l → Listed m k) → k ≡ l
 moves-ext [] [] low u v f g = refl
 moves-ext [] (y ∷ l) low u v f g = absurd (g y (inl refl))
 moves-ext (x ∷ k) [] low u v f g = absurd (f x (inl refl))
@@ -55,7 +57,7 @@ moves-ext (x ∷ k) (y ∷ l) low u v f g =
     let a : y .tablet .0 ≤ x .tablet .0 = listed-least y l (v .1) x (f x (inl refl)) in
     let b : x .tablet .0 ≤ y .tablet .0 = listed-least x k (u .1) y (g y (inl refl)) in
     let e : x ≡ y = ⊎-elim (λ s. s) (λ i. absurd (omega (arith, listed-above l (y .tablet .0) (v .1) x i))) (f x (inl refl)) in
-    let ih : k ≡ l = moves-ext k l (x .tablet .0) (u .1) (rising-low (tabletsOf l) (y .tablet .0) (x .tablet .0) b (v .1))
+    let ih : k ≡ l = moves-ext k l (x .tablet .0) (u .1) (rising-low (tabletsListed l) (y .tablet .0) (x .tablet .0) b (v .1))
     (λ m i. listed-behind y l m (f m (inr i)) (omega (arith, listed-above k (x .tablet .0) (u .1) m i)))
     (λ m i. listed-behind x k m (g m (inr i)) (omega (arith, listed-above l (y .tablet .0) (v .1) m i))) in
     λ i. e i ∷ ih i
@@ -107,13 +109,13 @@ sits-seated (m ∷ ms) es up n v i =
     (sits-seated ms (put (m .tablet .0) (m .new .0) es) (rw (numbers-put (m .tablet .0) (m .new .0) es) up) n v i)
 
 -- who is not in the list stays
-pub seated-other : (ms : List Move) (low : ℕ) → Rising low (tabletsOf ms) → (es : List Entry) (n v : ℕ) → n ≤ low → Sits es n v → Sits (seated ms es) n v
+pub seated-other : (ms : List Move) (low : ℕ) → Rising low (tabletsListed ms) → (es : List Entry) (n v : ℕ) → n ≤ low → Sits es n v → Sits (seated ms es) n v
 unfolding seated
 seated-other [] low up es n v h i = i
 seated-other (m ∷ ms) low up es n v h i =
     seated-other ms (m .tablet .0) (up .1) (put (m .tablet .0) (m .new .0) es) n v (omega (arith, up .0)) (put-other (m .tablet .0) (m .new .0) es n v i (λ x. omega (arith, up .0)))
 
-seated-sits : (ms : List Move) (low : ℕ) → Rising low (tabletsOf ms) → (es : List Entry) (m : Move) → Listed m ms → In (m .tablet .0) (numbers es) → Sits (seated ms es) (m .tablet .0) (m .new .0)
+seated-sits : (ms : List Move) (low : ℕ) → Rising low (tabletsListed ms) → (es : List Entry) (m : Move) → Listed m ms → In (m .tablet .0) (numbers es) → Sits (seated ms es) (m .tablet .0) (m .new .0)
 unfolding seated
 seated-sits [] low up es m i j = absurd i
 seated-sits (x ∷ ms) low up es m (inl u) j =
@@ -132,7 +134,7 @@ pub record Honest (old es : List Entry) (m : Move) : Type 0 where
   pub there : In (m .tablet .0) (numbers es)
   pub other : m .old .0 ≡ m .new .0 → ⊥
 
-pub moved-seated : (old es : List Entry) (ms : List Move) → Rising 0 (numbers es) → Rising 0 (tabletsOf ms)
+pub moved-seated : (old es : List Entry) (ms : List Move) → Rising 0 (numbers es) → Rising 0 (tabletsListed ms)
     → ((m : Move) → Listed m ms → Honest old es m) → ((n v : ℕ) → Sits es n v → has old n ≡ true → besideOf old n ≡ v) → moved old (seated ms es) ≡ ms
 moved-seated old es ms up ups honest same =
     moves-ext (moved old (seated ms es)) ms 0 (moved-rising old (seated ms es) 0 (rw (numbers-seated ms es) up)) ups to from
@@ -164,7 +166,7 @@ rising-snoc : (l : List ℕ) (low w n : ℕ) → Rising low (l ++ (w ∷ [])) �
 rising-snoc [] low w n up h = (up .0, (h, tt))
 rising-snoc (x ∷ l) low w n up h = (up .0, rising-snoc l x w n (up .1) h)
 
-tablets-more : (l : List Move) (m : Move) → tabletsOf (l ++ (m ∷ [])) ≡ tabletsOf l ++ (m .tablet .0 ∷ [])
+tablets-more : (l : List Move) (m : Move) → tabletsListed (l ++ (m ∷ [])) ≡ tabletsListed l ++ (m .tablet .0 ∷ [])
 tablets-more [] m = refl
 tablets-more (x ∷ l) m = ap (λ (k : List ℕ). x .tablet .0 ∷ k) (tablets-more l m)
 
@@ -179,7 +181,7 @@ pub record Chain (ts : List Entry) (x : ℕ) (ms : List Move) : Type 0 where
   pub seat : ℕ
   pub rest : List Move
   pub is : ms ≡ move x 0 seat ∷ rest
-  pub up : Rising x (tabletsOf rest)
+  pub up : Rising x (tabletsListed rest)
   pub sat : (m : Move) → Listed m rest → Sits ts (m .tablet .0) (m .old .0)
   pub other : (m : Move) → Listed m rest → m .old .0 ≡ m .new .0 → ⊥
 
@@ -192,7 +194,7 @@ module _ (ts : List Entry) (x : ℕ) where
 
   pub record Linked (s : Turn) (ahead : List Entry) : Type 0 where
     pub before : Chain ts x (s .chain)
-    pub up : Rising x (tabletsOf (before .rest) ++ (s .walker ∷ []))
+    pub up : Rising x (tabletsListed (before .rest) ++ (s .walker ∷ []))
     pub sat : Sits ts (s .walker) (s .from)
     pub other : (e : Entry) → Among e ahead → s .from ≡ e .number → ⊥
 
@@ -236,11 +238,11 @@ module _ (ts : List Entry) (x : ℕ) where
         other = others;
       }
     where
-      rises : (k : Fresh s ⊎ Linked s (c ∷ cs)) → Rising x (tabletsOf (chain-end s (c ∷ cs) k c (inl refl) .rest) ++ (greatest ts (c .number) ∷ []))
+      rises : (k : Fresh s ⊎ Linked s (c ∷ cs)) → Rising x (tabletsListed (chain-end s (c ∷ cs) k c (inl refl) .rest) ++ (greatest ts (c .number) ∷ []))
       rises (inl f) = (omega (arith, f .walker), tt)
       rises (inr l) =
           rw (tablets-more (l .before .rest) (move (s .walker) (s .from) (c .number)))
-          (rising-snoc (tabletsOf (l .before .rest)) x (s .walker) (greatest ts (c .number)) (l .up) h)
+          (rising-snoc (tabletsListed (l .before .rest)) x (s .walker) (greatest ts (c .number)) (l .up) h)
 
   further : (s : Turn) (c : Entry) (cs : List Entry) → Fresh s ⊎ Linked s (c ∷ cs) → Fresh s ⊎ Linked s cs
   further s c cs (inl f) = inl f
@@ -277,7 +279,7 @@ module _ (ts : List Entry) (up : Rising 0 (numbers ts)) (x : ℕ) (some-number :
   turn-moves ms c =
       ap (moved ts) (chain-seated ms c)
       ∙ moved-seated ts (insert x (c .seat) ts) (c .rest) (rising-insert x (c .seat) ts 0 some-number up new)
-      (rising-low (tabletsOf (c .rest)) x 0 (omega arith) (c .up))
+      (rising-low (tabletsListed (c .rest)) x 0 (omega arith) (c .up))
       (λ m i.
       let s : Sits ts (m .tablet .0) (m .old .0) = c .sat m i in
       let n : In (m .tablet .0) (numbers ts) = sits-in ts (m .tablet .0) (m .old .0) s in
@@ -294,13 +296,13 @@ module _ (ts : List Entry) (up : Rising 0 (numbers ts)) (x : ℕ) (some-number :
 -- ---- those who fill holes
 
 module _ (p : Positions) where
-  holes-rising : (l : List Entry) (low r : ℕ) → Rising low (numbers l) → Rising low (tabletsOf (holes p r l))
+  holes-rising : (l : List Entry) (low r : ℕ) → Rising low (numbers l) → Rising low (tabletsListed (holes p r l))
   unfolding numbers
   holes-rising [] low r up = unfold holes in tt
   holes-rising (e ∷ l) low r up =
       split (hadPassed p r e)
-      (λ h. subst (λ (k : List Move). Rising low (tabletsOf k)) (sym (holes-take p r e l h)) (up .0, holes-rising l (e .number) (e .beside) (up .1)))
-      (λ h. subst (λ (k : List Move). Rising low (tabletsOf k)) (sym (holes-pass p r e l h)) (rising-low (tabletsOf (holes p r l)) (e .number) low (omega (arith, up .0)) (holes-rising l (e .number) r (up .1))))
+      (λ h. subst (λ (k : List Move). Rising low (tabletsListed k)) (sym (holes-take p r e l h)) (up .0, holes-rising l (e .number) (e .beside) (up .1)))
+      (λ h. subst (λ (k : List Move). Rising low (tabletsListed k)) (sym (holes-pass p r e l h)) (rising-low (tabletsListed (holes p r l)) (e .number) low (omega (arith, up .0)) (holes-rising l (e .number) r (up .1))))
 
   -- nobody had passed its own relay
   not-own : (t r : ℕ) → sooner p t r r ≡ false

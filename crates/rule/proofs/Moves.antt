@@ -21,17 +21,10 @@ use Rattle.rule.specs.Entry.{Entry, numbers, has, besideOf}
 use Rattle.rule.specs.Order.{order, home}
 use Rattle.rule.specs.Calls.{move, moved}
 use Rattle.rule.specs.Stability.{Rising, Sits}
+use Rattle.rule.specs.Facts.{Among, Small}
+use Rattle.rule.specs.Moves.{Listed, tabletsListed}
 use Rattle.rule.proofs.Sets.{rising-low}
-use Rattle.rule.proofs.Orders.{Among, Small, first-least, in-order, order-sorted}
-
--- m is one of the moves
-abbrev pub Listed : Move → List Move → Type 0
-Listed m [] = ⊥
-Listed m (x ∷ xs) = (m ≡ x) ⊎ Listed m xs
-
-abbrev pub tabletsOf : List Move → List ℕ
-tabletsOf [] = []
-tabletsOf (m ∷ ms) = m .tablet .0 ∷ tabletsOf ms
+use Rattle.rule.proofs.Orders.{first-least, in-order, order-sorted}
 
 -- a tablet of both tables moved from the one relay to the other
 pub record Moves (old now-there : List Entry) (m : Move) : Type 0 where
@@ -84,13 +77,13 @@ moved-all old (e ∷ es) n v h i d =
     yes : (e .number ≡ n) × (e .beside ≡ v) → moves? old e ≡ true
     yes u = rw (u .0, u .1, h, ne-eqb (besideOf old n) v d)
 
-pub moved-rising : (old es : List Entry) (low : ℕ) → Rising low (numbers es) → Rising low (tabletsOf (moved old es))
+pub moved-rising : (old es : List Entry) (low : ℕ) → Rising low (numbers es) → Rising low (tabletsListed (moved old es))
 unfolding moved numbers
 moved-rising old [] low up = tt
 moved-rising old (e ∷ es) low up =
     split (moves? old e)
     (λ s. rw (s, moved) (up .0, moved-rising old es (e .number) (up .1)))
-    (λ s. rw (s, moved) (rising-low (tabletsOf (moved old es)) (e .number) low (omega (arith, up .0)) (moved-rising old es (e .number) (up .1))))
+    (λ s. rw (s, moved) (rising-low (tabletsListed (moved old es)) (e .number) low (omega (arith, up .0)) (moved-rising old es (e .number) (up .1))))
 
 -- where everybody sits as before nobody moved
 pub moved-none : (old es : List Entry) → ((n v : ℕ) → Sits es n v → besideOf old n ≡ v) → moved old es ≡ []

@@ -17,25 +17,12 @@ use Rattle.rule.specs.Rule.{Ring}
 use Rattle.rule.specs.Refusals.{isDone}
 use Rattle.rule.specs.Calls.{Lent, subject, after, moves, refusal}
 use Rattle.rule.specs.Stability.{Rising}
+use Rattle.rule.specs.Moves.{Listed, Moved, Names}
 use Rattle.rule.proofs.Sets.{sits-in}
 use Rattle.rule.proofs.Demand3.{in-has, has-sits, sits-beside}
 use Rattle.rule.proofs.Accepted.{accepted-is, after-right}
-use Rattle.rule.proofs.Moves.{Listed, tabletsOf, Moves, moved-is, moved-all, moved-rising}
+use Rattle.rule.proofs.Moves.{Moves, moved-is, moved-all, moved-rising}
 use Rattle.rule.proofs.Own.{edit-is, told-is, own-entry}
-
--- m is of a tablet of both rings, from its relay on the one to another on the other
-pub record Moved (g h : Ring) (m : Move) : Type 0 where
-  pub before : has (g .tablets) (m .tablet .0) ≡ true
-  pub now-there : has (h .tablets) (m .tablet .0) ≡ true
-  pub old : m .old .0 ≡ besideOf (g .tablets) (m .tablet .0)
-  pub new : m .new .0 ≡ besideOf (h .tablets) (m .tablet .0)
-  pub other : m .old .0 ≡ m .new .0 → ⊥
-
--- the moves from the one ring to the other: all, none but these, and each once, by rising tablet number
-pub record Names (g h : Ring) (ms : List Move) : Type 0 where
-  pub all : (m : Move) → Moved g h m → Listed m ms
-  pub only : (m : Move) → Listed m ms → Moved g h m
-  pub once : Rising 0 (tabletsOf ms)
 
 module _ (p : Positions) (m : Lent) (g : Ring) where
   module _ (c : Call) (done : isDone (refusal p m g c) ≡ true) (small : subject c < 2 ^ 32) where

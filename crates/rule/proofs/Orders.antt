@@ -9,7 +9,7 @@ use mathlib.Core.Path.{_≡_, refl, sym, ap, _∙_}
 use mathlib.Core.List.{List, [], _∷_}
 use mathlib.Core.Logic.{_⊎_, inl, inr, ⊎-elim}
 use mathlib.Core.Option.{Option, none, some}
-use Prim.Native.Nat.{ℕ, _^_, _≤_, _<_}
+use Prim.Native.Nat.{ℕ, _≤_, _<_}
 use native.Mathlib.Omega.{arith}
 use borrow.Author.Tests.{ltb-true, ltb-false}
 use lib.Dec.{ltb}
@@ -19,11 +19,7 @@ use Rattle.ring.proofs.Tests.{split, true-false}
 use Rattle.ring.proofs.Order.{sooner-key}
 use Rattle.rule.specs.Entry.{Entry, first}
 use Rattle.rule.specs.Order.{queued, order}
-
--- e is one of the entries
-abbrev pub Among : Entry → List Entry → Type 0
-Among e [] = ⊥
-Among e (x ∷ xs) = (e ≡ x) ⊎ Among e xs
+use Rattle.rule.specs.Facts.{Among, Sorted, Small}
 
 -- ---- the first that meets a test
 
@@ -66,10 +62,6 @@ module _ (f : Entry → Bool) where
 
 -- ---- lists that rise by a key
 
-abbrev pub Sorted : (ℕ → ℕ) → List Entry → Type 0
-Sorted k [] = Unit {0}
-Sorted k (e ∷ es) = ((x : Entry) → Among x es → k (e .number) ≤ k (x .number)) × Sorted k es
-
 pub first-least : (f : Entry → Bool) (k : ℕ → ℕ) (l : List Entry) → Sorted k l → (e : Entry) → first f l ≡ some e
     → (x : Entry) → Among x l → f x ≡ true → k (e .number) ≤ k (x .number)
 unfolding first
@@ -81,10 +73,6 @@ first-least f k (y ∷ l) up e h x i t =
     (λ s. first-least f k l (up .1) e (rw (s, first) at h) x (behind-head f y l x i t s) t)
 
 -- ---- the clockwise order
-
--- the numbers of the entries are 32-bit numbers
-abbrev pub Small : List Entry → Type 0
-Small l = (x : Entry) → Among x l → x .number < 2 ^ 32
 
 module _ (p : Positions) (t : ℕ) where
   pub in-queued : (e : Entry) (l : List Entry) (x : Entry) → Among x (queued p t e l) → Among x (e ∷ l)

@@ -11,19 +11,10 @@ use lib.Dec.{eqb, ltb}
 use Rattle.ring.proofs.Tests.{split, true-false}
 use Rattle.rule.specs.Entry.{Entry, entry, numbers, has, besideOf, insert, delete, put}
 use Rattle.rule.specs.Stability.{Rising, Sits}
+use Rattle.rule.specs.Sets.{Others, With}
 use Rattle.rule.proofs.Counts.{sits-deleted}
 use Rattle.rule.proofs.Sets.{in-sits}
 use Rattle.rule.proofs.Demand3.{has-in, in-has}
-
--- every other number is there as before, with the same beside it
-pub record Others (n : ℕ) (before now-there : List Entry) : Type 0 where
-  pub there : (q : ℕ) → (q ≡ n → ⊥) → has now-there q ≡ has before q
-  pub beside : (q : ℕ) → (q ≡ n → ⊥) → besideOf now-there q ≡ besideOf before q
-
--- the number n is there with v beside it
-pub record With (es : List Entry) (n v : ℕ) : Type 0 where
-  pub there : has es n ≡ true
-  pub beside : besideOf es n ≡ v
 
 others-none : (n : ℕ) (es : List Entry) → Others n es es
 others-none n es = record { there = λ q d. refl; beside = λ q d. refl }

@@ -23,11 +23,12 @@ use Rattle.rule.specs.Rule.{Ring, full, hasRoom, seat}
 use Rattle.rule.specs.Calls.{edited, after, moved, moves, fullAhead, passed, relayOf}
 use Rattle.rule.specs.Sweeps.{seated, seats, turn, newcomer, holes}
 use Rattle.rule.specs.Stability.{Rising, In}
+use Rattle.rule.specs.Facts.{Among, Right}
 use Rattle.rule.proofs.Counts.{insert-sits, length-insert, length-delete}
 use Rattle.rule.proofs.Sets.{rising-insert}
-use Rattle.rule.proofs.Orders.{Among, order-in}
+use Rattle.rule.proofs.Orders.{order-in}
 use Rattle.rule.proofs.Placing.{among-held}
-use Rattle.rule.proofs.Right.{Right, right-loads}
+use Rattle.rule.proofs.Right.{right-loads}
 use Rattle.rule.proofs.Demand3.{has-sits, sits-beside}
 use Rattle.rule.proofs.Turning.{turn-placement, distinct-order, distinct-rising, upTo-stop, upTo-go}
 use Rattle.rule.proofs.Holing.{holes-placement}
@@ -100,7 +101,7 @@ module _ (p : Positions) (g : Ring) (r : Right p g) (t : TabletNumber) (some-num
       one-more : (e : Entry) (l : List Entry) → full (g .tablets) e ≡ true → count (full (g .tablets)) l ≡ length l → count (full (g .tablets)) (e ∷ l) ≡ length (e ∷ l)
       one-more e l f h = unfold count in (rw f (omega arith))
 
-  pub enrol-passed : passed p g (Enrol t) ≡ length fulls
+  pub enrol-passed : passed p g (Enrol t) ≡ length (upTo (hasRoom (g .tablets)) (order p (t .0) (g .relays)))
   unfolding passed fullAhead
   enrol-passed = ahead-full (order p x (g .relays)) (λ e i. order-in p x (g .relays) e i)
 

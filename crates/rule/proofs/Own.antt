@@ -19,12 +19,15 @@ use Rattle.rule.specs.Rule.{Ring}
 use Rattle.rule.specs.Refusals.{isDone, firstBar}
 use Rattle.rule.specs.Stability.{Rising}
 use Rattle.rule.specs.Calls.{Lent, subject, edited, after, wrongNumbers, refusal}
+use Rattle.rule.specs.Facts.{Right}
+use Rattle.rule.specs.Sets.{Changed}
+use Rattle.rule.specs.Applying.{Accepted}
 use Rattle.rule.proofs.Counts.{length-delete}
-use Rattle.rule.proofs.Right.{Right, right-is}
+use Rattle.rule.proofs.Right.{right-is}
 use Rattle.rule.proofs.Demand3.{has-sits}
-use Rattle.rule.proofs.Accepted.{bar-passed, Accepted, accepted-is, Edited, edited-tables, after-sets, after-length}
+use Rattle.rule.proofs.Accepted.{bar-passed, accepted-is, Edited, edited-tables, after-sets, after-length}
 use Rattle.rule.proofs.Outcomes.{find-after}
-use Rattle.rule.proofs.Others.{Others, With, insert-others, delete-others, put-others, insert-own, delete-own, put-own, same-there}
+use Rattle.rule.proofs.Others.{insert-others, delete-others, put-others, insert-own, delete-own, put-own, same-there}
 
 -- ---- what a call is accepted for
 
@@ -47,19 +50,6 @@ told m g (Withdraw t) h = not-false _ (bar-passed _ NotThere _ refl (bar-passed 
 told m g (Find t) h = not-false _ (bar-passed _ NotThere _ refl (bar-passed _ NumberZero _ refl h .1) .0)
 
 -- ---- the sets afterwards
-
--- the same tablets are there, but for that one
-abbrev pub OtherTablets : ℕ → Ring → Ring → Type 0
-OtherTablets t g h = (q : ℕ) → (q ≡ t → ⊥) → has (h .tablets) q ≡ has (g .tablets) q
-
--- h has the sets of g with the call's own entry changed
-abbrev pub Changed : Ring → Call → Ring → Type 0
-Changed g (Add r l) h = Others (r .0) (g .relays) (h .relays) × (With (h .relays) (r .0) l × (numbers (h .tablets) ≡ numbers (g .tablets)))
-Changed g (Remove r) h = Others (r .0) (g .relays) (h .relays) × ((has (h .relays) (r .0) ≡ false) × (numbers (h .tablets) ≡ numbers (g .tablets)))
-Changed g (Set r l) h = Others (r .0) (g .relays) (h .relays) × (With (h .relays) (r .0) l × (numbers (h .tablets) ≡ numbers (g .tablets)))
-Changed g (Enrol t) h = (h .relays ≡ g .relays) × (OtherTablets (t .0) g h × (has (h .tablets) (t .0) ≡ true))
-Changed g (Withdraw t) h = (h .relays ≡ g .relays) × (OtherTablets (t .0) g h × (has (h .tablets) (t .0) ≡ false))
-Changed g (Find t) h = h ≡ g
 
 module _ (p : Positions) (m : Lent) (g : Ring) where
   -- an accepted call's sets are the edited ones

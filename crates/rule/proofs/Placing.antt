@@ -22,10 +22,11 @@ use Rattle.rule.specs.Order.{order}
 use Rattle.rule.specs.Rule.{hasRoom, seat, seatAll, placement}
 use Rattle.rule.specs.Rooms.{held, rooms, choose, orZero, less, fill}
 use Rattle.rule.specs.Stability.{Rising}
+use Rattle.rule.specs.Facts.{Among, Small}
 use Rattle.rule.proofs.Rooms.{Best, choose-best, total-some, total-less}
 use Rattle.rule.proofs.Stable.{best-one}
 use Rattle.rule.proofs.Exists.{held-above}
-use Rattle.rule.proofs.Orders.{Among, Small, first-none, first-some, first-least, order-in, in-order, order-sorted}
+use Rattle.rule.proofs.Orders.{first-none, first-some, first-least, order-in, in-order, order-sorted}
 
 -- ---- entries by their numbers
 

@@ -21,19 +21,15 @@ use Rattle.rule.specs.Entry.{Entry, numbers, total, load}
 use Rattle.rule.specs.Rule.{Ring, placement, rising, limitsFit, same, isJust, right}
 use Rattle.rule.specs.Rooms.{held, less, fill}
 use Rattle.rule.specs.Stability.{Rising, Stable}
+use Rattle.rule.specs.Facts.{Among, Small, Table, Right}
 use Rattle.rule.proofs.Rooms.{Best, total-less}
 use Rattle.rule.proofs.Stable.{stable-fill, fill-stable, head-fair, tail-fair}
 use Rattle.rule.proofs.Counts.{sits-above}
-use Rattle.rule.proofs.Orders.{Among, Small, option-some, option-apart}
+use Rattle.rule.proofs.Orders.{option-some, option-apart}
 use Rattle.rule.proofs.Placing.{held-among, placement-fill, placement-none}
 use Rattle.rule.proofs.Withdrawal.{load-held}
 
 -- ---- tests and facts
-
--- a table whose numbers are 32-bit numbers from 1 that rise
-pub record Table (es : List Entry) : Type 0 where
-  pub up : Rising 0 (numbers es)
-  pub small : Small es
 
 rising-up : (low : ℕ) (es : List Entry) → rising low es ≡ true → Rising low (numbers es)
 unfolding rising numbers
@@ -89,13 +85,6 @@ same-from [] = refl
 same-from (x ∷ xs) = rw (eq-eqb (x .number) (x .number) refl, eq-eqb (x .beside) (x .beside) refl) (same-from xs)
 
 -- ---- right tables
-
-pub record Right (p : Positions) (g : Ring) : Type 0 where
-  pub relays : Table (g .relays)
-  pub limits : limitsFit (g .relays) ≡ true
-  pub tablets : Table (g .tablets)
-  pub enough : length (g .tablets) ≤ total (g .relays)
-  pub ruled : g .tablets ≡ fill (key p) (g .relays) (numbers (g .tablets))
 
 pub length-numbers : (es : List Entry) → length (numbers es) ≡ length es
 unfolding numbers

@@ -18,9 +18,10 @@ use Rattle.rule.specs.Entry.{Entry, entry, numbers, load}
 use Rattle.rule.specs.Rule.{full, hasRoom}
 use Rattle.rule.specs.Walks.{greatest, stops, behind, lowerOf, lowest}
 use Rattle.rule.specs.Stability.{In, Sits, lower}
+use Rattle.rule.specs.Facts.{Among, Sorted}
 use Rattle.rule.proofs.Counts.{lower-load, lower-load-one, above-sits}
 use Rattle.rule.proofs.Sets.{sits-in}
-use Rattle.rule.proofs.Orders.{Among, Sorted, option-some, option-apart}
+use Rattle.rule.proofs.Orders.{option-some, option-apart}
 
 -- ---- entries that sit
 

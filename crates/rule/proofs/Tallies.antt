@@ -19,17 +19,17 @@ use Rattle.rule.specs.declared.Refusal.the-variants.{NumberZero, NotTher
 use Rattle.rule.specs.declared.Reply.{Reply}
 use Rattle.rule.specs.declared.Tally.{Tally}
 use Rattle.rule.specs.Entry.{Entry, numbers, has, besideOf, load, loads, count}
-use Rattle.rule.specs.Rule as Rule
-use Rattle.rule.specs.Rule.{Ring, right}
+use Rattle.rule.specs.Rule.{Ring}
 use Rattle.rule.specs.Refusals.{isDone, bareReply, Bar, bar, firstBar}
 use Rattle.rule.specs.Calls.{Lent, subject, edited, after, wrongNumbers, refusal, accepted, declined, outcome}
-use Rattle.rule.specs.Tally.{mostCounted, more, enrolments, withdrawals, counted, Step, Station, step, run, new}
+use Rattle.rule.specs.Tally.{more, enrolments, withdrawals, counted, Step, Station, step, run, new, Going, Fit}
 use Rattle.rule.specs.Stability.{Rising, In, Sits}
+use Rattle.rule.specs.Facts.{Right}
+use Rattle.rule.specs.Applying.{Accepted}
 use Rattle.rule.proofs.Counts.{length-insert, length-delete}
-use Rattle.rule.proofs.Right.{Right, right-is, right-stable}
+use Rattle.rule.proofs.Right.{right-is, right-stable}
 use Rattle.rule.proofs.Demand3.{has-in, held-has, has-sits}
-use Rattle.rule.proofs.Accepted.{Accepted, accepted-is, bar-passed, edited-tables, after-length, outcome-accepted, outcome-declined, outcome-right}
-use Rattle.rule.proofs.History.{Fit, run-right}
+use Rattle.rule.proofs.Accepted.{accepted-is, bar-passed, Edited, edited-tables, after-length, after-right, outcome-accepted, outcome-declined}
 
 -- ---- the loads
 
@@ -66,16 +66,10 @@ loads-length p g r =
 
 -- ---- the counts
 
--- no count has stopped
-pub record Going (t : Tally) : Type 0 where
-  pub enrolments : t .enrolments < mostCounted
-  pub withdrawals : t .withdrawals < mostCounted
-  pub moves : t .moves < mostCounted
-  pub refusals : t .refusals < mostCounted
-
--- a station whose tablets are the enrolments less the withdrawals
-abbrev Even : Station → Type 0
-Even s = length (s .ring .tablets) + s .tally .withdrawals ≡ s .tally .enrolments
+-- a station whose loads sum to its tablets, which are the enrolments less the withdrawals
+record Even (s : Station) : Type 0 where
+  loads : loads (s .ring .relays) (s .ring .tablets) ≡ length (s .ring .tablets)
+  counts : length (s .ring .tablets) + s .tally .withdrawals ≡ s .tally .enrolments
 
 -- a count that goes on after a call went on before it
 counted-going : (t : Tally) (c : Call) (r : Reply) → Going (counted t c r) → Going t
@@ -85,11 +79,11 @@ counted-going t c r =
     (λ d. rw (d, counted) (λ g. record { enrolments = omega (arith, g .enrolments); withdrawals = omega (arith, g .withdrawals); moves = omega (arith, g .moves); refusals = omega (arith, g .refusals) }))
     (λ d. rw (d, counted) (λ g. record { enrolments = omega (arith, g .enrolments); withdrawals = omega (arith, g .withdrawals); moves = omega (arith, g .moves); refusals = omega (arith, g .refusals) }))
 
-run-going : (p : Positions) (s : Station) (cs : List Step) → Going (run p s cs .tally) → Going (s .tally)
+run-going : (s : Station) (cs : List Step) → Going (run s cs .tally) → Going (s .tally)
 unfolding run step
-run-going p s [] g = g
-run-going p s (c ∷ cs) g =
-    counted-going (s .tally) (c .call) (outcome p (c .lent) (s .ring) (c .call) .reply) (run-going p (step p s c) cs g)
+run-going s [] g = g
+run-going s (c ∷ cs) g =
+    counted-going (s .tally) (c .call) (outcome (c .positions) (c .lent) (s .ring) (c .call) .reply) (run-going (step s c) cs g)
 
 -- an accepted call changes the number of tablets as it is counted
 edited-length : (p : Positions) (m : Lent) (g : Ring) (c : Call) → Right p g → isDone (firstBar (wrongNumbers m g c)) ≡ true
@@ -117,36 +111,46 @@ even-refused : (t : Tally) (c : Call) (r : Reply) → isDone (r .refusal) ≡ fa
 unfolding counted
 even-refused t c r d before e = rw (d, counted) e
 
-step-even : (p : Positions) (s : Station) (c : Step) → subject (c .call) < 2 ^ 32 → right p (s .ring) ≡ true → Going (step p s c .tally) → Even s → Even (step p s c)
-unfolding step accepted declined isDone
-step-even p s c f r =
-    split (isDone (refusal p (c .lent) (s .ring) (c .call)))
-    (λ d.
-    let a : Accepted p (c .lent) (s .ring) (c .call) = accepted-is p (c .lent) (s .ring) (c .call) d in
-    let ok : Right p (s .ring) = right-is p (s .ring) r in
-    let l : length (after p (s .ring) (c .call) .tablets) ≡ length (edited (s .ring) (c .call) .tablets) =
-    after-length p (s .ring) (c .call) (edited-tables p (c .lent) (s .ring) (c .call) ok (a .numbers) f) (a .enough) in
-    let k : length (after p (s .ring) (c .call) .tablets) + withdrawals (c .call) ≡ length (s .ring .tablets) + enrolments (c .call) =
-    omega (arith, edited-length p (c .lent) (s .ring) (c .call) ok (a .numbers)) in
-    rw (outcome-accepted p (c .lent) (s .ring) (c .call) d)
-    (λ g e. even-done (s .tally) (c .call) (accepted p (s .ring) (c .call) .reply) refl (length (s .ring .tablets)) (length (after p (s .ring) (c .call) .tablets)) k e g))
-    (λ d. rw (outcome-declined p (c .lent) (s .ring) (c .call) d)
-    (λ g e. even-refused (s .tally) (c .call) (bareReply (refusal p (c .lent) (s .ring) (c .call))) d (length (s .ring .tablets)) e))
+module _ (s : Station) (c : Step) (small : subject (c .call) < 2 ^ 32) where
+  abbrev p : Positions
+  p = c .positions
 
-run-even : (p : Positions) (s : Station) (cs : List Step) → Fit cs → right p (s .ring) ≡ true → Going (run p s cs .tally) → Even s → Even (run p s cs)
+  abbrev g : Ring
+  g = s .ring
+
+  -- an accepted call found right tables, whatever the calls before it went by
+  step-even : Going (step s c .tally) → Even s → Even (step s c)
+  unfolding step accepted declined isDone
+  step-even =
+      split (isDone (refusal p (c .lent) g (c .call)))
+      (λ d.
+      let a : Accepted p (c .lent) g (c .call) = accepted-is p (c .lent) g (c .call) d in
+      let ok : Right p g = right-is p g (a .tables) in
+      let ed : Edited g (c .call) = edited-tables p (c .lent) g (c .call) ok (a .numbers) small in
+      let k : length (after p g (c .call) .tablets) + withdrawals (c .call) ≡ length (g .tablets) + enrolments (c .call) =
+      omega (arith, after-length p g (c .call) ed (a .enough), edited-length p (c .lent) g (c .call) ok (a .numbers)) in
+      rw (outcome-accepted p (c .lent) g (c .call) d)
+      (λ go e. record {
+        loads = loads-length p (after p g (c .call)) (after-right p g (c .call) ed (a .enough));
+        counts = even-done (s .tally) (c .call) (accepted p g (c .call) .reply) refl (length (g .tablets)) (length (after p g (c .call) .tablets)) k (e .counts) go;
+      }))
+      (λ d. rw (outcome-declined p (c .lent) g (c .call) d)
+      (λ go e. record {
+        loads = e .loads;
+        counts = even-refused (s .tally) (c .call) (bareReply (refusal p (c .lent) g (c .call))) d (length (g .tablets)) (e .counts);
+      }))
+
+run-even : (s : Station) (cs : List Step) → Fit cs → Going (run s cs .tally) → Even s → Even (run s cs)
 unfolding run
-run-even p s [] f r g e = e
-run-even p s (c ∷ cs) f r g e =
-    run-even p (step p s c) cs (f .1) (unfold step in (outcome-right p (c .lent) (s .ring) (c .call) (f .0) r)) g
-    (step-even p s c (f .0) r (run-going p (step p s c) cs g) e)
+run-even s [] f g e = e
+run-even s (c ∷ cs) f g e = run-even (step s c) cs (f .1) g (step-even s c (f .0) (run-going (step s c) cs g) e)
 
-pub new-right : (p : Positions) → right p (new .ring) ≡ true
-unfolding new Rule.right Rule.rising Rule.limitsFit Rule.placement Rule.seatAll Rule.isJust Rule.same numbers
-new-right p = refl
+new-even : Even new
+unfolding new loads
+new-even = record { loads = refl; counts = refl }
 
-pub tally-loads : (p : Positions) (cs : List Step) → Fit cs → Going (run p new cs .tally)
-    → loads (run p new cs .ring .relays) (run p new cs .ring .tablets) + run p new cs .tally .withdrawals ≡ run p new cs .tally .enrolments
-unfolding new
-tally-loads p cs f g =
-    ap (λ (n : ℕ). n + run p new cs .tally .withdrawals) (loads-length p (run p new cs .ring) (right-is p (run p new cs .ring) (run-right p new cs f (new-right p))))
-    ∙ run-even p new cs f (new-right p) g refl
+pub tally-loads : (cs : List Step) → Fit cs → Going (run new cs .tally)
+    → loads (run new cs .ring .relays) (run new cs .ring .tablets) + run new cs .tally .withdrawals ≡ run new cs .tally .enrolments
+tally-loads cs f g =
+    let e : Even (run new cs) = run-even new cs f g new-even in
+    ap (λ (n : ℕ). n + run new cs .tally .withdrawals) (e .loads) ∙ e .counts

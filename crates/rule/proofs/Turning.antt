@@ -24,14 +24,15 @@ use Rattle.rule.specs.Walks.{greatest}
 use Rattle.rule.specs.Sweeps.{seated, seats, Turn, turnAt, turn, newcomer}
 use Rattle.rule.specs.Rooms.{held, fill}
 use Rattle.rule.specs.Stability.{Rising, In, Sits, lower, Fair}
+use Rattle.rule.specs.Facts.{Among, Sorted, Small, Distinct, Table, Right}
 use Rattle.rule.proofs.Counts.{lower-load, lower-load-one, load-insert, load-delete, above-sits, sits-above, sits-insert, insert-sits, sits-delete, delete-sits}
 use Rattle.rule.proofs.Sets.{sits-in, insert-in, in-delete, rising-insert}
 use Rattle.rule.proofs.Puts.{delete-inserted, insert-delete, delete-insert, in-put, rising-put}
 use Rattle.rule.proofs.Enrolment.{Walk, walk-start, walk-evict, walk-settle, evict-open}
-use Rattle.rule.proofs.Orders.{Among, Sorted, Small, in-queued, order-in, in-order, order-sorted, option-some, option-apart}
+use Rattle.rule.proofs.Orders.{in-queued, order-in, in-order, order-sorted, option-some, option-apart}
 use Rattle.rule.proofs.Placing.{among-above, among-held, held-among}
 use Rattle.rule.proofs.Searches.{greatest-sits, greatest-top}
-use Rattle.rule.proofs.Right.{Table, Right, right-stable, right-loads, held-small}
+use Rattle.rule.proofs.Right.{right-stable, right-loads, held-small}
 
 -- ---- seats one after the other
 
@@ -95,11 +96,6 @@ pub turn-last : (ts : List Entry) (s : Turn) (cs : List Entry) (c : Entry) → t
 unfolding turn
 turn-last ts s [] c = refl
 turn-last ts s (e ∷ cs) c = turn-last ts (turnAt ts s e) cs c
-
--- no number stands twice
-abbrev pub Distinct : List Entry → Type 0
-Distinct [] = Unit {0}
-Distinct (c ∷ cs) = ((e : Entry) → Among e cs → c .number ≡ e .number → ⊥) × Distinct cs
 
 module _ (p : Positions) (rs : List Entry) (t : Table rs) (ts : List Entry) (up-ts : Rising 0 (numbers ts)) (loads-ts : (q : ℕ) → load ts q ≤ held rs q) (x : ℕ) where
   -- q is the larger table with everybody who sat down, es the same without w, who walks; the relays ahead are still to come

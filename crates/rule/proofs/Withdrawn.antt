@@ -21,12 +21,13 @@ use Rattle.rule.specs.Rule.{Ring, placement}
 use Rattle.rule.specs.Walks.{satDown, hadPassed, lowest, fillHole, withdrawn}
 use Rattle.rule.specs.Rooms.{fill}
 use Rattle.rule.specs.Stability.{Rising, Sits}
+use Rattle.rule.specs.Facts.{Table, Right}
 use Rattle.rule.proofs.Counts.{above, above-fewer, count-length, length-delete}
 use Rattle.rule.proofs.Chain.{later}
 use Rattle.rule.proofs.Withdrawal.{Gap, gap-start, gap-step, gap-end}
 use Rattle.rule.proofs.Placing.{placement-fill}
 use Rattle.rule.proofs.Searches.{sits-among, among-sits, lowest-some, lowest-none, lowest-least}
-use Rattle.rule.proofs.Right.{Table, Right, right-stable, held-small, length-numbers}
+use Rattle.rule.proofs.Right.{right-stable, held-small, length-numbers}
 use Rattle.rule.proofs.Demand3.{has-sits}
 
 -- nobody above n, so nobody who sits is

@@ -3,8 +3,12 @@ pub mod Order
 pub mod Rule
 pub mod Rooms
 pub mod Stability
+pub mod Facts
+pub mod Sets
 pub mod Refusals
 pub mod Calls
+pub mod Applying
+pub mod Moves
 pub mod Walks
 pub mod Sweeps
 pub mod Sheet

@@ -1,7 +1,7 @@
 -- What a station counts (document 01, "Sheet, balance, tally"). Assumes nothing.
 use mathlib.Core.Bool.{true, false}
 use mathlib.Core.List.{List, [], _∷_}
-use Prim.Native.Nat.{ℕ, _+_, min}
+use Prim.Native.Nat.{ℕ, _+_, _^_, _<_, min}
 use Rattle.ring.specs.Scheme.{Positions}
 use Rattle.rule.specs.declared.Call.{Call}
 use Rattle.rule.specs.declared.Call.the-variants.{Add, Remove, Set, Enrol, Withdraw, Find}
@@ -9,7 +9,7 @@ use Rattle.rule.specs.declared.Reply.{Reply}
 use Rattle.rule.specs.declared.Tally.{Tally}
 use Rattle.rule.specs.Rule.{Ring}
 use Rattle.rule.specs.Refusals.{isDone}
-use Rattle.rule.specs.Calls.{Lent, Outcome, outcome}
+use Rattle.rule.specs.Calls.{Lent, subject, refusal, Outcome, outcome}
 
 -- each count stops here
 abbrev pub mostCounted : ℕ
@@ -47,10 +47,18 @@ counted t c r =
       | false ↦ record { enrolments = t .enrolments; withdrawals = t .withdrawals; moves = t .moves; refusals = more (t .refusals) 1 }
     ]
 
+-- no count has stopped
+pub record Going (t : Tally) : Type 0 where
+  pub enrolments : t .enrolments < mostCounted
+  pub withdrawals : t .withdrawals < mostCounted
+  pub moves : t .moves < mostCounted
+  pub refusals : t .refusals < mostCounted
+
 -- ---- runs of calls
 
--- a call, with what is lent to it besides the tables
+-- a call, with the positions of its scheme and what is lent to it besides the tables
 pub record Step : Type 0 where
+  pub positions : Positions
   pub lent : Lent
   pub call : Call
 
@@ -58,14 +66,28 @@ pub record Station : Type 0 where
   pub ring : Ring
   pub tally : Tally
 
-unfoldable pub step : Positions → Station → Step → Station
-step p s c =
-    let o : Outcome = outcome p (c .lent) (s .ring) (c .call) in
+-- the tables and the tally go on from call to call
+unfoldable pub step : Station → Step → Station
+step s c =
+    let o : Outcome = outcome (c .positions) (c .lent) (s .ring) (c .call) in
     record { ring = o .ring; tally = counted (s .tally) (c .call) (o .reply) }
 
-unfoldable pub run : Positions → Station → List Step → Station
-run p s [] = s
-run p s (c ∷ cs) = run p (step p s c) cs
+unfoldable pub run : Station → List Step → Station
+run s [] = s
+run s (c ∷ cs) = run (step s c) cs
+
+-- the positions that the tables go by, p before the call: those of the call where it is accepted
+unfoldable pub goesBy : Positions → Station → Step → Positions
+goesBy p s c = elim (isDone (refusal (c .positions) (c .lent) (s .ring) (c .call))) [ true ↦ c .positions | false ↦ p ]
+
+unfoldable pub goneBy : Positions → Station → List Step → Positions
+goneBy p s [] = p
+goneBy p s (c ∷ cs) = goneBy (goesBy p s c) (step s c) cs
+
+-- every call is about a 32-bit number
+abbrev pub Fit : List Step → Type 0
+Fit [] = Unit {0}
+Fit (c ∷ cs) = (subject (c .call) < 2 ^ 32) × Fit cs
 
 -- empty tables and a zero tally
 unfoldable pub new : Station

@@ -13,7 +13,7 @@ use lib.Seq.{getD-append-add}
 use Rattle.ring.proofs.Tests.{and-left}
 use Rattle.rule.specs.Entry.{Entry}
 use Rattle.rule.specs.Rule.{Ring}
-use Rattle.rule.proofs.Right.{Table}
+use Rattle.rule.specs.Facts.{Table}
 use Rattle.lent.specs.Table.{mostRelays, relayPlaces, relayNumber, relayLimit, relayWhole, mostTablets, tabletPlaces, tabletNumber, tabletRelay, tabletWhole}
 use Rattle.lent.specs.Shape.{used, relaysUsed, tabletsUsed, relayFits, tabletFits}
 use Rattle.meaning.specs.Meaning.{places, restUnused, ringOf, fitTables}
@@ -88,7 +88,7 @@ module _ (es : List Entry) (len : ℕ) (room : length es ≤ len / 2) (whole : l
     ascending-again = places-table (firstOf (filled len (flat es))) (secondOf (filled len (flat es))) (length es) (rw entries-again t)
 
     used-again : used (firstOf (filled len (flat es))) (len / 2) ≡ length es
-    used-again = used-is (firstOf (filled len (flat es))) (length es) (ascending-again .some) (len / 2) room (λ i h k. zeros-again i h k .0)
+    used-again = used-is (firstOf (filled len (flat es))) (length es) (ascending-again .numbered) (len / 2) room (λ i h k. zeros-again i h k .0)
 
     -- as long as it is to be, with as many places in use as there are entries, these entries in them, and zeros behind
     table-again : Again (filled len (flat es)) es len

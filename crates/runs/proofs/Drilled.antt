@@ -5,14 +5,11 @@
 -- Assumes nothing.
 use mathlib.Core.List.{List, [], _∷_, map}
 use mathlib.Core.Path.{_≡_, refl}
-use Prim.Native.Nat.{ℕ, zero, suc}
+use Prim.Native.Nat.{ℕ}
 use lib.ListN.{drop}
 use Rattle.ring.specs.Scheme as Scheme
 use Rattle.ring.specs.Clockwise as Clockwise
-use Rattle.rule.specs.declared.Call.{Call}
 use Rattle.rule.specs.declared.Reply.{Reply}
-use Rattle.rule.specs.declared.Move.{Move}
-use Rattle.rule.specs.Calls.{move}
 use Rattle.rule.specs.Entry as Entry
 use Rattle.rule.specs.Order as Order
 use Rattle.rule.specs.Rule as Rule
@@ -28,25 +25,18 @@ use Rattle.meaning.specs.Meaning as Meaning
 use Rattle.write.specs.Tables as Tables
 use Rattle.tally.specs.Counted as Counted
 use Rattle.look.specs.Promise as Promise
-use Rattle.runs.specs.Runs.{Memory, called, calledAll}
+use Rattle.runs.specs.Runs.{Memory, Step, answerTo, called, calledAll}
+use Rattle.runs.specs.Demands.{standing}
 use Rattle.runs.specs.Drilled as Drilled
 
--- the first moves of a lent list
-unfoldable pub standing : ℕ → List ℕ → List Move
-standing zero l = []
-standing (suc k) [] = []
-standing (suc k) (t ∷ []) = []
-standing (suc k) (t ∷ o ∷ []) = []
-standing (suc k) (t ∷ o ∷ n ∷ l) = move t o n ∷ standing k l
+-- what calls answer, one after the other on the same tables: the reply, and as many moves as it says from the lent list
+unfoldable pub answered : Memory → List Step → List Drill.Answer
+answered m [] = []
+answered m (c ∷ cs) =
+    let a : After Reply (Promise.Lists ℕ) = answerTo m c in
+    record { reply = a .reply; moves = standing (a .reply .moves) (a .lent .moves) } ∷ answered (called m c) cs
 
--- what calls answer, one after the other on the same lent numbers: the reply, and as many moves as it says from the lent list
-unfoldable pub answered : ℕ → Memory → List Call → List Drill.Answer
-answered s m [] = []
-answered s m (c ∷ cs) =
-    let a : After Reply (Promise.Lists ℕ) = Promise.after s (m .relays) (m .tablets) (m .moves) c in
-    record { reply = a .reply; moves = standing (a .reply .moves) (a .lent .moves) } ∷ answered s (called s m c) cs
-
-pub drill-lent : (drop 3 (answered 0 Drilled.blank Drilled.drillCalls) ≡ map (λ (c : Drill.Case). c .answer) Drill.drill)
-    × (calledAll 0 Drilled.blank Drilled.drillCalls .tally ≡ Drilled.drillTally)
-unfolding answered standing called calledAll Drilled.blank Drilled.drillCalls Drilled.drillTally Promise.after Promise.left Promise.written Promised.settled Promise.outcomeOf Meaning.lentOf Meaning.ringOf Meaning.places Meaning.fitTables Meaning.restUnused Shape.relaysUsed Shape.tabletsUsed Shape.used Shape.relayFits Shape.tabletFits Shape.all Shape.unused Table.relayPlaces Table.relayNumber Table.relayLimit Table.relayWhole Table.tabletPlaces Table.tabletNumber Table.tabletRelay Table.tabletWhole Tables.flat Tables.filled Tables.relayTable Tables.tabletTable Tables.flatMoves Tables.listed Counted.tallyOf Counted.counts Counted.tallied Tally.more Tally.counted Scheme.known Scheme.positions Scheme.position Clockwise.clockwise Clockwise.distance Clockwise.sooner Entry.numbers Entry.has Entry.besideOf Entry.insert Entry.delete Entry.put Entry.total Entry.count Entry.load Entry.first Entry.upTo Order.queued Order.order Rule.full Rule.hasRoom Rule.seat Rule.seatAll Rule.placement Rule.rising Rule.limitsFit Rule.same Rule.isJust Rule.right Refusals.isDone Refusals.firstBar Calls.edited Calls.orNobody Calls.after Calls.moved Calls.moves Calls.aheadOf Calls.fullAhead Calls.passed Calls.relayOf Calls.wrongNumbers Calls.refusal Calls.accepted Calls.declined Calls.outcome Drill.replies Drill.drill
+pub drill-lent : (drop 3 (answered Drilled.blank Drilled.drillSteps) ≡ map (λ (c : Drill.Case). c .answer) Drill.drill)
+    × (calledAll Drilled.blank Drilled.drillSteps .tally ≡ Drilled.drillTally)
+unfolding answered standing called calledAll Drilled.blank Drilled.drillCalls Drilled.drillSteps Drilled.drillTally Promise.after Promise.left Promise.written Promised.settled Promise.outcomeOf Meaning.lentOf Meaning.ringOf Meaning.places Meaning.fitTables Meaning.restUnused Shape.relaysUsed Shape.tabletsUsed Shape.used Shape.relayFits Shape.tabletFits Shape.all Shape.unused Table.relayPlaces Table.relayNumber Table.relayLimit Table.relayWhole Table.tabletPlaces Table.tabletNumber Table.tabletRelay Table.tabletWhole Tables.flat Tables.filled Tables.relayTable Tables.tabletTable Tables.flatMoves Tables.listed Counted.tallyOf Counted.counts Counted.tallied Tally.more Tally.counted Scheme.known Scheme.positions Scheme.position Clockwise.clockwise Clockwise.distance Clockwise.sooner Entry.numbers Entry.has Entry.besideOf Entry.insert Entry.delete Entry.put Entry.total Entry.count Entry.load Entry.first Entry.upTo Order.queued Order.order Rule.full Rule.hasRoom Rule.seat Rule.seatAll Rule.placement Rule.rising Rule.limitsFit Rule.same Rule.isJust Rule.right Refusals.isDone Refusals.firstBar Calls.edited Calls.orNobody Calls.after Calls.moved Calls.moves Calls.aheadOf Calls.fullAhead Calls.passed Calls.relayOf Calls.wrongNumbers Calls.refusal Calls.accepted Calls.declined Calls.outcome Drill.replies Drill.drill
 drill-lent = (refl, refl)

@@ -1,10 +1,11 @@
--- A call on right tables leaves right tables, and what they mean is the outcome's ring.
---   call-reply      the reply is the outcome's
---   call-stands     the tables afterwards
+-- What a call leaves in the lent tables.
+--   call-stands                  an accepted call: right tables, which mean the ring afterwards
+--   call-means, call-lengths     any call: they mean the outcome's ring, and are as long as before
+--   call-reply, call-refusal     the reply is the outcome's, and its refusal the one that is given
 -- Assumes nothing.
 use mathlib.Core.Bool.{true}
 use mathlib.Core.List.{List}
-use mathlib.Core.Path.{_≡_, refl}
+use mathlib.Core.Path.{_≡_, refl, sym, ap, _∙_}
 use Prim.Native.Nat.{ℕ, _^_, _≤_, _<_}
 use native.Mathlib.Omega.{arith}
 use lib.ListN.{length}
@@ -14,23 +15,20 @@ use Rattle.rule.specs.declared.Call.{Call}
 use Rattle.rule.specs.Rule as Rule
 use Rattle.rule.specs.Refusals.{isDone}
 use Rattle.rule.specs.Calls as Calls
-use Rattle.rule.proofs.Right.{Right, right-is, right-from}
-use Rattle.rule.proofs.Accepted.{Accepted, accepted-is, Edited, edited-tables, after-length, after-right, outcome-accepted, outcome-declined}
+use Rattle.rule.specs.Facts.{Right}
+use Rattle.rule.specs.Applying.{Accepted}
+use Rattle.rule.proofs.Right.{right-is, right-from}
+use Rattle.rule.proofs.Lowest.{done-is}
+use Rattle.rule.proofs.Accepted.{accepted-is, Edited, edited-tables, after-length, after-right, outcome-accepted, outcome-declined}
 use Rattle.lent.specs.Table.{relayPlaces, tabletPlaces}
 use Rattle.meaning.specs.Meaning.{ringOf, tablesRight, lentOf}
-use Rattle.meaning.proofs.Fit.{Fit, right-fit, right-ruled}
+use Rattle.meaning.proofs.Fit.{Fit, fit-is}
 use Rattle.write.specs.Tables.{listed}
 use Rattle.look.specs.Promise.{outcomeOf, written, after}
 use Rattle.look.proofs.Refusing.{after-accepted, after-declined}
+use Rattle.runs.specs.Runs.{Stands}
 use Rattle.runs.proofs.Again.{ring-again, fit-again, lengths-again}
 use Rattle.runs.proofs.Rooms.{relays-room, tablets-room}
-
--- tables as long as these others, which are right and mean this ring
-pub record Stands (s : ℕ) (rs ts : List ℕ) (g : Rule.Ring) (rs′ ts′ : List ℕ) : Type 0 where
-  pub ring : ringOf rs′ ts′ ≡ g
-  pub right : tablesRight s rs′ ts′ ≡ true
-  pub relays : length rs′ ≡ length rs
-  pub tablets : length ts′ ≡ length ts
 
 module _ (s : ℕ) (rs ts ms : List ℕ) (c : Call) where
   abbrev p : Positions
@@ -49,17 +47,29 @@ module _ (s : ℕ) (rs ts ms : List ℕ) (c : Call) where
       (λ d. rw (after-accepted s rs ts ms c d, outcome-accepted p lent g c d))
       (λ d. rw (after-declined s rs ts ms c d, outcome-declined p lent g c d))
 
-  module _ (small : Calls.subject c < 2 ^ 32) (ok : tablesRight s rs ts ≡ true) where
-    fits : Fit rs ts
-    fits = right-fit rs ts s ok
+  -- the reply's refusal is the one that is given
+  pub call-refusal : after s rs ts ms c .reply .refusal ≡ Calls.refusal p lent g c
+  unfolding written Calls.accepted
+  call-refusal =
+      split (isDone (Calls.refusal p lent g c))
+      (λ d. rw (after-accepted s rs ts ms c d) (sym (done-is (Calls.refusal p lent g c) d)))
+      (λ d. rw (after-declined s rs ts ms c d))
 
-    stands-accepted : isDone (Calls.refusal p lent g c) ≡ true
-        → Stands s rs ts (Calls.after p g c) (written listed rs ts ms (Calls.accepted p g c) .lent .relays)
+  -- ---- an accepted call
+
+  module _ (done : isDone (Calls.refusal p lent g c) ≡ true) (small : Calls.subject c < 2 ^ 32) where
+    a : Accepted p lent g c
+    a = accepted-is p lent g c done
+
+    fits : Fit rs ts
+    unfolding lentOf
+    fits = fit-is rs ts (a .fit)
+
+    stands-accepted : Stands s rs ts (Calls.after p g c) (written listed rs ts ms (Calls.accepted p g c) .lent .relays)
         (written listed rs ts ms (Calls.accepted p g c) .lent .tablets)
     unfolding written Calls.accepted Calls.after tablesRight
-    stands-accepted d =
-        let a : Accepted p lent g c = accepted-is p lent g c d in
-        let e : Edited g c = edited-tables p lent g c (right-is p g (right-ruled rs ts s ok)) (a .numbers) small in
+    stands-accepted =
+        let e : Edited g c = edited-tables p lent g c (right-is p g (a .tables)) (a .numbers) small in
         let r : Right p (Calls.after p g c) = after-right p g c e (a .enough) in
         let relaysRoom : length (Calls.after p g c .relays) ≤ relayPlaces rs = relays-room s rs ts ms c (a .numbers) in
         let tabletsRoom : length (Calls.after p g c .tablets) ≤ tabletPlaces ts =
@@ -72,9 +82,22 @@ module _ (s : ℕ) (rs ts ms : List ℕ) (c : Call) where
           tablets = lengths-again rs ts (Calls.after p g c) (fits .relays) (fits .tablets) (r .relays) (r .tablets) relaysRoom tabletsRoom .1;
         }
 
-    pub call-stands : Stands s rs ts (outcomeOf s rs ts ms c .ring) (after s rs ts ms c .lent .relays) (after s rs ts ms c .lent .tablets)
-    unfolding outcomeOf Calls.accepted Calls.declined
-    call-stands =
-        split (isDone (Calls.refusal p lent g c))
-        (λ d. rw (after-accepted s rs ts ms c d, outcome-accepted p lent g c d) (stands-accepted d))
-        (λ d. rw (after-declined s rs ts ms c d, outcome-declined p lent g c d) (record { ring = refl; right = ok; relays = refl; tablets = refl }))
+    pub call-stands : Stands s rs ts (Calls.after p g c) (after s rs ts ms c .lent .relays) (after s rs ts ms c .lent .tablets)
+    call-stands = rw (after-accepted s rs ts ms c done) stands-accepted
+
+  -- ---- any call
+
+  -- what the tables mean afterwards is the outcome's ring
+  pub call-means : Calls.subject c < 2 ^ 32 → ringOf (after s rs ts ms c .lent .relays) (after s rs ts ms c .lent .tablets) ≡ outcomeOf s rs ts ms c .ring
+  unfolding outcomeOf Calls.accepted Calls.declined
+  call-means small =
+      split (isDone (Calls.refusal p lent g c))
+      (λ d. call-stands d small .ring ∙ sym (ap (λ (o : Calls.Outcome). o .ring) (outcome-accepted p lent g c d)))
+      (λ d. rw (after-declined s rs ts ms c d, outcome-declined p lent g c d))
+
+  pub call-lengths : Calls.subject c < 2 ^ 32
+      → (length (after s rs ts ms c .lent .relays) ≡ length rs) × (length (after s rs ts ms c .lent .tablets) ≡ length ts)
+  call-lengths small =
+      split (isDone (Calls.refusal p lent g c))
+      (λ d. (call-stands d small .relays, call-stands d small .tablets))
+      (λ d. rw (after-declined s rs ts ms c d) (refl, refl))

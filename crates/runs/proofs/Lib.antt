@@ -7,3 +7,4 @@ pub mod Free
 pub mod Drilled
 pub mod Shells
 pub mod Pairs
+pub mod Demands

@@ -14,7 +14,8 @@ use Rattle.ring.proofs.Tests.{and-left, and-right}
 use Rattle.rule.specs.declared.Refusal.the-variants.{SchemeUnknown, RosterShapeWrong, RosterContentWrong, OutputUnfit}
 use Rattle.rule.specs.Rule as Rule
 use Rattle.rule.specs.Refusals.{isDone, Bar, bar, firstBar}
-use Rattle.rule.proofs.Right.{Right, right-is}
+use Rattle.rule.specs.Facts.{Right}
+use Rattle.rule.proofs.Right.{right-is}
 use Rattle.rule.proofs.Accepted.{bar-passed}
 use Rattle.lent.specs.Table.{relayPlaces, tabletPlaces}
 use Rattle.lent.specs.Shape.{relayFits, tabletFits}
@@ -24,8 +25,8 @@ use Rattle.roster.specs.Content.{numbered, ringRight, contentRight, tablesFit}
 use Rattle.promise.proofs.Binding.{settled-done}
 use Rattle.roster.specs.Reading.{refusal, refusedReading, taken, after}
 use Rattle.meaning.specs.Meaning.{tablesRight}
+use Rattle.runs.specs.Runs.{Stands}
 use Rattle.runs.proofs.Again.{ring-again, fit-again, lengths-again}
-use Rattle.runs.proofs.Kept.{Stands}
 
 block-length : (b : List ℕ) (at count : ℕ) → length (block b at count) ≡ count
 unfolding block

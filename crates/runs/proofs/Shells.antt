@@ -27,13 +27,14 @@ use Rattle.rule.specs.Refusals.{isDone, replied}
 use Rattle.rule.specs.Calls as Calls
 use Rattle.rule.proofs.Right.{right-is}
 use Rattle.promise.specs.Promise as Promised
-use Rattle.promise.specs.Promise.{After, Answers}
+use Rattle.promise.specs.Promise.{After}
 use Rattle.lent.specs.Table as Table
 use Rattle.lent.specs.Shape as Shape
 use Rattle.meaning.specs.Meaning as Meaning
 use Rattle.write.specs.Tables as Tables
 use Rattle.look.specs.Promise as Promise
 use Rattle.look.specs.Promise.{Lists, lists, after}
+use Rattle.runs.specs.Ways.{Way, Kept}
 
 -- ---- an enrolment that moves two, and one that moves nobody
 
@@ -64,14 +65,6 @@ unfolding Promise.after Promise.left Promise.written Promised.settled Promise.ou
 two-enrolments = (refl, refl)
 
 -- ---- the shells
-
--- what answers every call, whatever is lent
-abbrev pub Way : Type 0
-Way = ℕ → List ℕ → List ℕ → List ℕ → Call → After Reply (Lists ℕ)
-
--- it keeps the promise of the six calls
-abbrev pub Kept : Way → Type 0
-Kept f = (s : ℕ) (rs ts ms : List ℕ) (c : Call) → Answers (after s rs ts ms c) (f s rs ts ms c .reply) (f s rs ts ms c .lent)
 
 -- there is such a way: what document 01 gives
 pub kept-by-after : Kept after

@@ -25,9 +25,10 @@ use Rattle.order.specs.Keys.{slotRelay}
 use Rattle.survey.specs.declared.Survey.{Survey}
 use Rattle.survey.specs.Seats.{HomeByte}
 use Rattle.meaning.specs.Meaning.{relaysIn, ringOf}
+use Rattle.meaning.specs.Rising.{Rises}
 use Rattle.meaning.proofs.Places.{length-places, beside-places}
 use Rattle.meaning.proofs.Words.{tablet-number-word}
-use Rattle.meaning.proofs.Right.{Rises, right-found}
+use Rattle.meaning.proofs.Right.{right-found}
 use Rattle.slots.specs.Slots.{stepsTo, roundNumber, roundLimit, round}
 use Rattle.slots.proofs.Steps.{steps-inside, slot-steps}
 use Rattle.slots.proofs.Lists.{upTo-places}

@@ -7,3 +7,4 @@ pub mod Sheeting
 pub mod Examples
 pub mod Holding
 pub mod Unchanged
+pub mod Lowest

@@ -14,8 +14,8 @@ use Rattle.ring.specs.Scheme.{Positions}
 use Rattle.ring.specs.Clockwise.{key}
 use Rattle.ring.proofs.Order.{key-apart}
 use Rattle.rule.specs.Entry.{Entry, entry, first, upTo}
-use Rattle.rule.proofs.Orders.{Among, Sorted, Small}
-use Rattle.rule.proofs.Turning.{Distinct, upTo-stop, upTo-go}
+use Rattle.rule.specs.Facts.{Among, Sorted, Small, Distinct}
+use Rattle.rule.proofs.Turning.{upTo-stop, upTo-go}
 use Rattle.meaning.specs.Meaning.{places}
 use Rattle.meaning.proofs.Places.{places-cons, next}
 

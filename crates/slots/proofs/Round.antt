@@ -14,7 +14,8 @@ use Rattle.ring.proofs.Tests.{split}
 use Rattle.ring.proofs.Order.{sooner-key}
 use Rattle.rule.specs.Entry.{Entry, entry}
 use Rattle.rule.specs.Order.{order}
-use Rattle.rule.proofs.Orders.{Among, Small, order-in, in-order, order-sorted}
+use Rattle.rule.specs.Facts.{Among, Small}
+use Rattle.rule.proofs.Orders.{order-in, in-order, order-sorted}
 use Rattle.rule.proofs.Turning.{distinct-order, distinct-rising}
 use Rattle.lent.specs.Table.{mostRelays, relayNumber, relayLimit}
 use Rattle.lent.specs.Placing.{relayPositions, keyFrom}

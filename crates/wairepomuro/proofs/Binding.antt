@@ -13,4 +13,4 @@ shares-one a b = (a .answered ∙ sym (b .answered), a .limit ∙ sym (b .limit)
 module _ {s : ℕ} {rs ts lent : List ℕ} where
   -- the length answered, and the start
   pub spans-one : {relay x x′ out out′ : ℕ} → Spans s rs ts lent relay x out → Spans s rs ts lent relay x′ out′ → (x ≡ x′) × (out ≡ out′)
-  spans-one a b = (a .length ∙ sym (b .length), a .start ∙ sym (b .start))
+  spans-one a b = (a .len ∙ sym (b .len), a .start ∙ sym (b .start))

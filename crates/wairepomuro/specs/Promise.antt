@@ -41,5 +41,5 @@ pub record Shares (p q tablets relays answer out : ℕ) : Type 0 where
 
 -- the length answered, and the start: those of the part of the lent sheet
 pub record Spans (s : ℕ) (rs ts lent : List ℕ) (relay answer out : ℕ) : Type 0 where
-  pub length : answer ≡ stretchOf s rs ts lent relay .len
+  pub len : answer ≡ stretchOf s rs ts lent relay .len
   pub start : out ≡ stretchOf s rs ts lent relay .start

@@ -17,7 +17,7 @@ use Rattle.rule.specs.Rule.{Ring}
 use Rattle.rule.specs.Calls.{move}
 use Rattle.rule.specs.Walks.{hadPassed}
 use Rattle.rule.specs.Sweeps.{holes}
-use Rattle.rule.proofs.Orders.{Among}
+use Rattle.rule.specs.Facts.{Among}
 use Rattle.rule.proofs.Puts.{delete-hit, delete-miss}
 use Rattle.rule.proofs.Holing.{holes-take, holes-pass, holes-skip, lower-passed}
 use Rattle.lent.specs.Table.{tabletNumber, tabletRelay}

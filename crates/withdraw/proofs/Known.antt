@@ -18,19 +18,20 @@ use Rattle.rule.specs.Rule.{Ring}
 use Rattle.rule.specs.Rooms.{held}
 use Rattle.rule.specs.Walks.{hadPassed}
 use Rattle.rule.specs.Stability.{Sits, Fair, lower}
+use Rattle.rule.specs.Facts.{Among, Right}
 use Rattle.rule.proofs.Counts.{lower-load-one}
-use Rattle.rule.proofs.Orders.{Among}
 use Rattle.rule.proofs.Searches.{sits-among, among-sits}
-use Rattle.rule.proofs.Right.{Right, held-small, right-stable, right-loads}
+use Rattle.rule.proofs.Right.{held-small, right-stable, right-loads}
 use Rattle.rule.proofs.Holing.{room-passed}
 use Rattle.lent.specs.Table.{relayNumber, relayLimit, tabletNumber, tabletRelay}
 use Rattle.order.specs.Keys.{slotRelay}
 use Rattle.survey.specs.declared.Survey.{Survey}
 use Rattle.row.specs.Row.{slotRoom}
 use Rattle.meaning.specs.Meaning.{relaysIn, tabletsIn}
+use Rattle.meaning.specs.Rising.{Rises}
 use Rattle.meaning.proofs.Places.{places-sits, held-places}
 use Rattle.meaning.proofs.Words.{tablet-relay-word}
-use Rattle.meaning.proofs.Right.{Rises, right-room}
+use Rattle.meaning.proofs.Right.{right-room}
 use Rattle.look.specs.Start.{Start}
 use Rattle.look.proofs.Refusing.{start-rises, start-ring}
 use Rattle.seat.proofs.Passing.{home-within, home-byte, slot-within, slot-relay, passed-steps}
