@@ -3,14 +3,15 @@ ghost use mathlib.Core.Path.{_≡_};
 ghost use mathlib.Core.Bool.{_||_};
 ghost use Prim.Native.Nat.{_≤_, _<_};
 ghost use lib.Dec.{eqb, ltb};
+ghost use Rattle.ring.specs.Most.{mostRelays, mostTablets};
 ghost use Rattle.rule.specs.Balance.{balanceRefusal, roundedUp, balancedLimit, balance};
 ghost use Rattle.balance.specs.Balancing.{InRange, Balances};
 
 const MOST_SHARE: u32 = 1000;
 
-const MOST_TABLETS: u32 = 4096;
+const MOST_TABLETS: u32 = ring::MOST_TABLETS as u32;
 
-const MOST_RELAYS: u32 = 256;
+const MOST_RELAYS: u32 = ring::MOST_RELAYS as u32;
 
 // The reply, and every relay's limit; 0 where the balance is refused.
 pub struct Balanced {
@@ -52,7 +53,7 @@ fn some_zero(p: u32, q: u32, relays: u32) -> bool
 
 // Is a number out of range?
 fn some_beyond(p: u32, q: u32, tablets: u32, relays: u32) -> bool
-    ensures { λ r. ⌜ r ≡ (ltb 1000 p || (ltb 1000 q || (ltb p q || (ltb 4096 tablets || ltb 256 relays)))) ⌝ }
+    ensures { λ r. ⌜ r ≡ (ltb 1000 p || (ltb 1000 q || (ltb p q || (ltb mostTablets tablets || ltb mostRelays relays)))) ⌝ }
 {
     either(
         MOST_SHARE < p,
@@ -90,9 +91,9 @@ fn limit_for(p: u32, q: u32, tablets: u32, relays: u32) -> u32
     ensures { λ r. ⌜ r ≡ balancedLimit p q tablets relays ⌝ }
 {
     let share = rounded_up(p * tablets, q * relays);
-    if share <= rule::MOST_LIMIT {
+    if share <= ring::MOST_LIMIT {
         share
     } else {
-        rule::MOST_LIMIT
+        ring::MOST_LIMIT
     }
 }

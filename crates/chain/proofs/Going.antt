@@ -7,12 +7,13 @@ use native.Mathlib.Omega.{arith}
 use native.Mathlib.Numerals.{add-one}
 use lib.Dec.{eqb}
 use lib.ListN.{length, getD, set}
+use Rattle.ring.specs.Most.{mostRelays}
 use Rattle.ring.specs.Scheme.{Positions}
 use Rattle.rule.specs.Entry.{entry}
 use Rattle.rule.specs.Walks.{greatest}
 use Rattle.rule.specs.Sweeps.{Turn, seats, turnAt, turn, newcomer}
 use Rattle.rule.proofs.Turning.{turn-none, turn-last}
-use Rattle.lent.specs.Table.{mostRelays, relayNumber, tabletPlaces}
+use Rattle.lent.specs.Table.{relayNumber, tabletPlaces}
 use Rattle.lent.proofs.Loops.{stored}
 use Rattle.order.specs.Keys.{slotRelay}
 use Rattle.meaning.specs.Meaning.{places, tabletsIn}

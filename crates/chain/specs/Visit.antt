@@ -6,6 +6,7 @@ use mathlib.Core.Path.{_≡_}
 use Prim.Native.Nat.{ℕ, _+_, _-_}
 use lib.Dec.{eqb, ltb}
 use lib.ListN.{length, set}
+use Rattle.ring.specs.Most.{mostRelays}
 use Rattle.lent.specs.Table.{tabletNumber}
 
 -- l is one more than the place of the greatest tablet there, 0 where there is none
@@ -17,5 +18,5 @@ pub record Visited (b : Bool) (place seat place′ seat′ : List ℕ) (c i l c�
   pub count : c′ ≡ cond b (c + 1) c
   pub seats : seat′ ≡ cond b (set seat c i) seat
   pub places : place′ ≡ cond b (set place (c + 1) (l - 1)) place
-  pub seat-size : length seat′ ≡ 256
-  pub place-size : length place′ ≡ 256
+  pub seat-size : length seat′ ≡ mostRelays
+  pub place-size : length place′ ≡ mostRelays

@@ -3,6 +3,7 @@
 ghost use mathlib.Core.Path.{_≡_};
 ghost use Prim.Native.Nat.{ℕ, _+_, _-_, _<_, _≤_};
 ghost use lib.ListN.{length, getD, set};
+ghost use Rattle.ring.specs.Most.{mostRelays, mostTablets};
 ghost use Rattle.ring.specs.Scheme.{positions};
 ghost use Rattle.lent.specs.Table.{tabletPlaces};
 ghost use Rattle.chain.specs.Chain.{nameAt, nextSlot, From, Chained};
@@ -13,12 +14,12 @@ ghost use Rattle.chain.specs.Visit.{givesWay, Visited};
 pub struct Chain {
     pub others: usize,
     pub steps: usize,
-    pub place: [u16; 256],
-    pub seat: [u8; 256],
+    pub place: [u16; ring::MOST_RELAYS],
+    pub seat: [u8; ring::MOST_RELAYS],
 }
 
 fn next_slot(n: usize, k: usize) -> usize
-    requires { ⌜ k < 256 ⌝ }
+    requires { ⌜ k < mostRelays ⌝ }
     ensures { λ r. ⌜ r ≡ nextSlot n k ⌝ }
 {
     if k + 1 == n { 0 } else { k + 1 }
@@ -27,11 +28,11 @@ fn next_slot(n: usize, k: usize) -> usize
 // The tablet that walks once c sat down; t is the newcomer.
 fn walker(
     tablets: &[u32],
-    place: &[u16; 256],
+    place: &[u16; ring::MOST_RELAYS],
     c: usize,
     t: ring::TabletNumber,
 ) -> ring::TabletNumber
-    requires { ⌜ (c < 256) × (0 < c → getD (now place) c 0 < tabletPlaces (now tablets)) ⌝ }
+    requires { ⌜ (c < mostRelays) × (0 < c → getD (now place) c 0 < tabletPlaces (now tablets)) ⌝ }
     ensures { λ r. ⌜ r .0 ≡ nameAt (t .0) (now (tablets .entry)) (now (place .entry)) c ⌝ }
 {
     if c == 0 {
@@ -52,8 +53,14 @@ fn gives_way(tablets: &[u32], w: ring::TabletNumber, l: usize) -> bool
 }
 
 // The c-th sits down at relay i, and the tablet at place l - 1 walks on.
-fn sit_down(place: &mut [u16; 256], seat: &mut [u8; 256], c: usize, i: usize, l: usize)
-    requires { ⌜ (c + 1 < 256) × (i < 256) × (0 < l) × (l ≤ 4096) × (length (now place) ≡ 256) × (length (now seat) ≡ 256) ⌝ }
+fn sit_down(
+    place: &mut [u16; ring::MOST_RELAYS],
+    seat: &mut [u8; ring::MOST_RELAYS],
+    c: usize,
+    i: usize,
+    l: usize,
+)
+    requires { ⌜ (c + 1 < mostRelays) × (i < mostRelays) × (0 < l) × (l ≤ mostTablets) × (length (now place) ≡ mostRelays) × (length (now seat) ≡ mostRelays) ⌝ }
     ensures { λ r. ⌜ (now (seat .exit) ≡ set (now (seat .entry)) c i) × (now (place .exit) ≡ set (now (place .entry)) (c + 1) (l - 1)) ⌝ }
 {
     seat[c] = i as u8;
@@ -62,15 +69,15 @@ fn sit_down(place: &mut [u16; 256], seat: &mut [u8; 256], c: usize, i: usize, l:
 
 fn visit(
     tablets: &[u32],
-    place: &mut [u16; 256],
-    seat: &mut [u8; 256],
+    place: &mut [u16; ring::MOST_RELAYS],
+    seat: &mut [u8; ring::MOST_RELAYS],
     c: usize,
     w: ring::TabletNumber,
     i: usize,
     l: usize,
 ) -> usize
-    requires { ⌜ (c + 1 < 256) × (i < 256) × (l ≤ 4096) × (l ≤ tabletPlaces (now tablets))
-        × (length (now place) ≡ 256) × (length (now seat) ≡ 256) ⌝ }
+    requires { ⌜ (c + 1 < mostRelays) × (i < mostRelays) × (l ≤ mostTablets) × (l ≤ tabletPlaces (now tablets))
+        × (length (now place) ≡ mostRelays) × (length (now seat) ≡ mostRelays) ⌝ }
     ensures { λ r. ⌜ Visited (givesWay (now (tablets .entry)) (w .0) l) (now (place .entry)) (now (seat .entry))
         (now (place .exit)) (now (seat .exit)) c i l r ⌝ }
 {
@@ -88,8 +95,8 @@ pub fn turn(
     tablets: &[u32],
     n: usize,
     m: usize,
-    keys: &[u64; 256],
-    last: &[u16; 256],
+    keys: &[u64; ring::MOST_RELAYS],
+    last: &[u16; ring::MOST_RELAYS],
     h: usize,
     stop: usize,
     t: ring::TabletNumber,
@@ -98,8 +105,8 @@ pub fn turn(
     ensures { λ r. ⌜ Chained (now (relays .entry)) (now (tablets .entry)) n m (now (keys .entry)) h stop (t .0)
         (r .others) (r .steps) (r .place) (r .seat) ⌝ }
 {
-    let mut place = [0u16; 256];
-    let mut seat = [0u8; 256];
+    let mut place = [0u16; ring::MOST_RELAYS];
+    let mut seat = [0u8; ring::MOST_RELAYS];
     let mut c: usize = 0;
     let mut d: usize = 0;
     let mut k = h;

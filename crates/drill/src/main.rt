@@ -11,17 +11,10 @@ const STDOUT: i32 = 1;
 
 const SCHEME: u32 = 0;
 
-// Two numbers to a place, for 256 relays and for 4,096 tablets.
-const RELAYS: usize = 512;
-
 // Where the last relay stands.
 const LAST: usize = 510;
 
-const TABLETS: usize = 8192;
-
 const CALLS: usize = 21;
-
-const SHEET: usize = 4096;
 
 // The list that is lent has eight records, of three numbers each.
 const LIST: usize = 8;
@@ -157,14 +150,14 @@ fn show_stretch(relays: &[u32], tablets: &[u32], sheet: &[u32], relay: u32) {
 }
 
 // The sheet, the stretch of every relay, and that of a relay that is not there.
-fn show_sheet(relays: &[u32; RELAYS], tablets: &[u32]) {
-    let mut sheet = [0u32; SHEET];
+fn show_sheet(relays: &[u32; lent::RELAY_NUMBERS], tablets: &[u32]) {
+    let mut sheet = [0u32; ring::MOST_TABLETS];
     let reply = sheet::sheet(SCHEME, relays, tablets, &mut sheet);
     let refusal = reply.refusal;
     say_number(b"sheet ", rule::number(refusal));
     say(b"\n");
     let mut i: usize = 0;
-    while i < RELAYS {
+    while i < lent::RELAY_NUMBERS {
         let relay = relays[i];
         if relay != 0 {
             show_stretch(relays, tablets, &sheet, relay);
@@ -202,8 +195,8 @@ fn run(
 }
 
 // A relay table with 255 relays of limit 0, 1 to 255.
-fn crowd() -> [u32; RELAYS] {
-    let mut relays = [0u32; RELAYS];
+fn crowd() -> [u32; lent::RELAY_NUMBERS] {
+    let mut relays = [0u32; lent::RELAY_NUMBERS];
     let mut n: u32 = 1;
     let mut i: usize = 0;
     while i < LAST {
@@ -237,8 +230,8 @@ fn show_roster(bytes: &[u8]) {
 }
 
 fn main() {
-    let mut relays = [0u32; RELAYS];
-    let mut tablets = [0u32; TABLETS];
+    let mut relays = [0u32; lent::RELAY_NUMBERS];
+    let mut tablets = [0u32; lent::TABLET_NUMBERS];
     let zero = rule::Tally {
         enrolments: 0,
         withdrawals: 0,

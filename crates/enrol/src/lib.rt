@@ -41,8 +41,8 @@ fn seat_others(
     tablets: &mut [u32],
     moves: &mut [u32],
     m: usize,
-    place: &[u16; 256],
-    seat: &[u8; 256],
+    place: &[u16; ring::MOST_RELAYS],
+    seat: &[u8; ring::MOST_RELAYS],
     others: usize,
 )
     requires { ⌜ Seatable (now relays) (now tablets) (now moves) (now place) (now seat) m others ⌝ }

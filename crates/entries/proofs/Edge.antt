@@ -9,10 +9,10 @@ use Prim.Native.Nat.{ℕ, zero, suc, _+_, _≤_, _<_}
 use native.Mathlib.Omega.{arith}
 use borrow.Author.Tests.{ltb-true, ltb-false}
 use lib.Dec.{ltb}
+use Rattle.ring.specs.Most.{topNumber, mostLimit}
 use Rattle.ring.proofs.Tests.{split, and-right}
 use Rattle.lent.specs.Table.{relayPlaces, relayNumber, relayLimit, tabletPlaces, tabletNumber, tabletRelay}
-use Rattle.rule.specs.Rule.{mostLimit}
-use Rattle.lent.specs.Shape.{used, shape, topNumber, relaysUsed, tabletsUsed, relayFits, tabletFits, relayShape, tabletShape}
+use Rattle.lent.specs.Shape.{used, shape, relaysUsed, tabletsUsed, relayFits, tabletFits, relayShape, tabletShape}
 use Rattle.entries.specs.Entries.{Edge, RelayEntries, TabletEntries}
 use Rattle.lent.proofs.Shaped.{shape-within, shape-entry, shape-rest, shape-used}
 

@@ -2,11 +2,9 @@
 // way out, so that they go over several places at a time.
 ghost use mathlib.Core.Path.{_≡_};
 ghost use Prim.Native.Nat.{_-_, _≤_};
-ghost use Rattle.rule.specs.Rule.{mostLimit};
+ghost use Rattle.ring.specs.Most.{topNumber, mostLimit};
 ghost use Rattle.lent.specs.Table.{relayPlaces, relayNumber, relayLimit, tabletPlaces, tabletNumber, tabletRelay};
-ghost use Rattle.lent.specs.Shape.{all, entryRight, unused, entryAt, unusedAt, topNumber, relayShape, tabletShape};
-
-const TOP_NUMBER: u32 = 4294967295;
+ghost use Rattle.lent.specs.Shape.{all, entryRight, unused, entryAt, unusedAt, relayShape, tabletShape};
 
 fn entry_right(top: u32, before: u32, number: u32, beside: u32) -> bool
     ensures { λ r. ⌜ r ≡ entryRight top before number beside ⌝ }
@@ -37,7 +35,7 @@ fn relays_rise(relays: &[u32], n: usize) -> bool
     while i < n {
         let number = lent::relay_number(relays, i).0;
         let limit = lent::relay_limit(relays, i);
-        ok = lent::both(ok, entry_right(rule::MOST_LIMIT, before, number, limit));
+        ok = lent::both(ok, entry_right(ring::MOST_LIMIT, before, number, limit));
         before = number;
         i += 1;
     }
@@ -90,7 +88,7 @@ fn tablets_rise(tablets: &[u32], m: usize) -> bool
     while j < m {
         let number = lent::tablet_number(tablets, j).0;
         let relay = lent::tablet_relay(tablets, j).0;
-        ok = lent::both(ok, entry_right(TOP_NUMBER, before, number, relay));
+        ok = lent::both(ok, entry_right(ring::TOP_NUMBER, before, number, relay));
         before = number;
         j += 1;
     }

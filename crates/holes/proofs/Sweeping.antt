@@ -14,8 +14,8 @@ use borrow.Author.Tests.{ltb-true, ltb-false, eqb-true, eqb-false}
 use lib.Dec.{ltb, eqb}
 use lib.ListN.{length, getD, set, take, length-set}
 use lib.Seq.{getD-set-same, getD-set-other, take-suc-set}
+use Rattle.ring.specs.Most.{mostRelays}
 use Rattle.ring.proofs.Tests.{split}
-use Rattle.lent.specs.Table.{mostRelays}
 use Rattle.row.specs.Row.{slotRoom}
 use Rattle.holes.specs.Holes.{passedAt, movers, Sweeps, Next, Climbing, MoversAre}
 use Rattle.holes.proofs.Counting.{lastOf, last-above, last-below, fewer, fewer-most, fewer-more}

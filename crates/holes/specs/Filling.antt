@@ -3,11 +3,12 @@ use mathlib.Core.List.{List, [], _∷_}
 use mathlib.Core.Path.{_≡_}
 use Prim.Native.Nat.{ℕ, _*_, _-_, _≤_, _<_}
 use lib.ListN.{length, getD}
+use Rattle.ring.specs.Most.{mostRelays}
 use Rattle.rule.specs.declared.Move.{Move}
 use Rattle.rule.specs.Entry.{delete}
 use Rattle.rule.specs.Calls.{move}
 use Rattle.rule.specs.Sweeps.{seated}
-use Rattle.lent.specs.Table.{mostRelays, tabletPlaces, tabletNumber, tabletRelay}
+use Rattle.lent.specs.Table.{tabletPlaces, tabletNumber, tabletRelay}
 use Rattle.meaning.specs.Meaning.{tabletsIn}
 use Rattle.meaning.specs.Ascending.{Ascending}
 use Rattle.write.specs.Wrote.{WroteTablets}

@@ -6,7 +6,7 @@ use mathlib.Core.Path.{_≡_}
 use Prim.Native.Nat.{ℕ, zero, suc, _+_, _-_, _%_, _≤_, _<_}
 use lib.Dec.{ltb}
 use lib.ListN.{length, getD, take}
-use Rattle.lent.specs.Table.{mostRelays, mostTablets}
+use Rattle.ring.specs.Most.{mostRelays, mostTablets}
 use Rattle.row.specs.Row.{slotRoom}
 use Rattle.holes.specs.declared.Movers.{Movers}
 

@@ -4,7 +4,8 @@ ghost use mathlib.Core.Path.{_≡_};
 ghost use Prim.Native.Nat.{_≤_, _<_};
 ghost use lib.Dec.{ltb};
 ghost use lib.ListN.{take};
-ghost use Rattle.lent.specs.Table.{mostTablets, tabletRelay};
+ghost use Rattle.ring.specs.Most.{mostTablets};
+ghost use Rattle.lent.specs.Table.{tabletRelay};
 ghost use Rattle.write.specs.Tables.{listed};
 ghost use Rattle.holes.specs.Holes.{around, Next, Sweeps, Climbing, MoversAre};
 ghost use Rattle.holes.specs.Filling.{movesOf, Fillers, MovedUp, Filled};
@@ -14,7 +15,7 @@ ghost use Rattle.holes.specs.Filling.{movesOf, Fillers, MovedUp, Filled}
 // The places of those who move, by rising number: the first so many.
 pub struct Movers {
     pub count: usize,
-    pub places: [u16; 256],
+    pub places: [u16; ring::MOST_RELAYS],
 }
 
 // Had a tablet with its home at slot h and its relay at slot k passed the relay at another slot? It is the same on a ring of 256 slots,
@@ -26,7 +27,12 @@ fn had_passed(h: u8, k: u8, other: u8) -> bool
 }
 
 // The first place behind place i, of m, whose tablet had passed the relay of the tablet there; m where none had.
-fn next_passed<'a>(home: &'a [u8; 4096], slot: &'a [u8; 4096], m: usize, i: usize) -> usize
+fn next_passed<'a>(
+    home: &'a [u8; ring::MOST_TABLETS],
+    slot: &'a [u8; ring::MOST_TABLETS],
+    m: usize,
+    i: usize,
+) -> usize
     requires { ⌜ (m ≤ mostTablets) × (i < m) ⌝ }
     ensures { λ r. ⌜ Next (now (home .entry)) (now (slot .entry)) m i r ⌝ }
 {
@@ -43,10 +49,10 @@ fn next_passed<'a>(home: &'a [u8; 4096], slot: &'a [u8; 4096], m: usize, i: usiz
 
 // The same, at once where that relay has room: nobody had passed it.
 fn next_mover<'a>(
-    keys: &'a [u64; 256],
-    room: &'a [u32; 256],
-    home: &'a [u8; 4096],
-    slot: &'a [u8; 4096],
+    keys: &'a [u64; ring::MOST_RELAYS],
+    room: &'a [u32; ring::MOST_RELAYS],
+    home: &'a [u8; ring::MOST_TABLETS],
+    slot: &'a [u8; ring::MOST_TABLETS],
     m: usize,
     i: usize,
 ) -> usize
@@ -63,17 +69,17 @@ fn next_mover<'a>(
 
 // Those who move when the tablet at place `at` leaves its relay.
 pub fn holes<'a>(
-    keys: &'a [u64; 256],
-    room: &'a [u32; 256],
-    home: &'a [u8; 4096],
-    slot: &'a [u8; 4096],
+    keys: &'a [u64; ring::MOST_RELAYS],
+    room: &'a [u32; ring::MOST_RELAYS],
+    home: &'a [u8; ring::MOST_TABLETS],
+    slot: &'a [u8; ring::MOST_TABLETS],
     m: usize,
     at: usize,
 ) -> Movers
     requires { ⌜ Sweeps (now keys) (now room) (now home) (now slot) m × (at < m) ⌝ }
     ensures { λ c. ⌜ MoversAre (now (home .entry)) (now (slot .entry)) m at c ⌝ }
 {
-    let mut places = [0u16; 256];
+    let mut places = [0u16; ring::MOST_RELAYS];
     let mut count: usize = 0;
     let mut j = next_mover(keys, room, home, slot, m, at);
     while j < m {
@@ -94,7 +100,7 @@ fn sit_down(
     tablets: &mut [u32],
     moves: &mut [u32],
     m: usize,
-    places: &[u16; 256],
+    places: &[u16; ring::MOST_RELAYS],
     count: usize,
     r: ring::RelayNumber,
 )
@@ -120,7 +126,7 @@ pub fn fill(
     moves: &mut [u32],
     m: usize,
     at: usize,
-    places: &[u16; 256],
+    places: &[u16; ring::MOST_RELAYS],
     count: usize,
 )
     requires { ⌜ Fillers (now tablets) (now moves) m (now places) count × (at < m) × Climbing (now places) count at m ⌝ }

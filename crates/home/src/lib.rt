@@ -4,16 +4,16 @@ ghost use mathlib.Core.Bool.{_&&_};
 ghost use Prim.Native.Nat.{_/_, _<_, _≤_};
 ghost use lib.Dec.{eqb, leb};
 ghost use lib.ListN.{length};
-ghost use Rattle.lent.specs.Table.{mostRelays};
+ghost use Rattle.ring.specs.Most.{mostRelays};
 ghost use Rattle.order.specs.Keys.{KeysRise};
 ghost use Rattle.home.specs.Home.{keyAt, Begins, Home, arcs, arc, Starts, Marked};
 
 const ARCS: usize = 1024;
 
-const ARC: u64 = 4194304;
+const ARC: u64 = ring::NUMBERS / 1024;
 
 // The slot where a walk from slot h to the key x ends.
-pub fn advance(keys: &[u64; 256], n: usize, h: usize, x: u64) -> usize
+pub fn advance(keys: &[u64; ring::MOST_RELAYS], n: usize, h: usize, x: u64) -> usize
     requires { ⌜ (n ≤ mostRelays) × KeysRise n (now keys) × Begins (now keys) n x h ⌝ }
     ensures { λ r. ⌜ Home (now (keys .entry)) n x r ⌝ }
 {
@@ -35,7 +35,7 @@ fn arc_of(key: u64) -> usize
 }
 
 // A walk to the arcs from `from` to `top` begins at slot k. Answers with the first arc past them.
-fn mark(start: &mut [u16; 1024], from: usize, top: usize, k: u16) -> usize
+fn mark(start: &mut [u16; ARCS], from: usize, top: usize, k: u16) -> usize
     requires { ⌜ (from ≤ arcs) × (top < arcs) × (length (now start) ≡ arcs) ⌝ }
     ensures { λ r. ⌜ Marked from top k (now (start .entry)) (now (start .exit)) r ⌝ }
 {
@@ -55,7 +55,7 @@ pub fn in_turn(scheme: u32) -> bool
 }
 
 // For each arc of the ring the slot where a walk to its positions may begin: the first where positions come in turn, since then none does.
-pub fn arc_starts(keys: &[u64; 256], n: usize, in_turn: bool) -> [u16; 1024]
+pub fn arc_starts(keys: &[u64; ring::MOST_RELAYS], n: usize, in_turn: bool) -> [u16; ARCS]
     requires { ⌜ (n ≤ mostRelays) × KeysRise n (now keys) ⌝ }
     ensures { λ r. ⌜ Starts (now (keys .entry)) n arcs r ⌝ }
 {
@@ -83,8 +83,8 @@ fn goes_on(in_turn: bool, last: ring::Position, p: ring::Position) -> bool
 // The home of position p. Where positions come in turn, the walk begins at h, the home of the last position, if p is not before that;
 // else by its arc.
 pub fn home_of(
-    keys: &[u64; 256],
-    start: &[u16; 1024],
+    keys: &[u64; ring::MOST_RELAYS],
+    start: &[u16; ARCS],
     n: usize,
     in_turn: bool,
     h: usize,
@@ -95,7 +95,7 @@ pub fn home_of(
     ensures { λ r. ⌜ Home (now (keys .entry)) n (keyAt (p .0)) r ⌝ }
 {
     let at = p.0 as u64;
-    let x = at * 4294967296;
+    let x = at * ring::NUMBERS;
     let on = goes_on(in_turn, last, p);
     if on {
         return advance(keys, n, h, x);

@@ -14,10 +14,10 @@ use native.Mathlib.Omega.{arith}
 use borrow.Author.Tests.{lt-ltb, le-ltb}
 use lib.Dec.{ltb}
 use lib.ListN.{getD}
+use Rattle.ring.specs.Most.{mostRelays}
 use Rattle.ring.specs.Clockwise.{clockwise, distance, sooner, key}
 use Rattle.ring.proofs.Order.{sooner-key}
 use Rattle.ring.proofs.Round.{clockwise-on, clockwise-round}
-use Rattle.lent.specs.Table.{mostRelays}
 use Rattle.home.specs.Home.{keyAt, Home}
 use Rattle.nearest.specs.Nearest.{inSlots}
 use Rattle.homes.specs.Shift.{skip}

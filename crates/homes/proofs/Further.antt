@@ -8,7 +8,7 @@ use Prim.Native.Nat.{ℕ, _+_, _%_, _^_, _≤_, _<_}
 use native.Mathlib.Decide.{decLt}
 use native.Mathlib.Omega.{arith}
 use lib.ListN.{getD}
-use Rattle.lent.specs.Table.{mostRelays}
+use Rattle.ring.specs.Most.{mostRelays}
 use Rattle.home.specs.Home.{keyAt, Home}
 use Rattle.nearest.specs.Nearest.{Enters, itself, round, HomeAt}
 use Rattle.homes.specs.Shift.{skip}

@@ -10,7 +10,7 @@ use native.Mathlib.Decide.{decLt}
 use native.Mathlib.Omega.{arith}
 use borrow.Author.Tests.{lt-ltb, le-ltb}
 use lib.ListN.{getD}
-use Rattle.lent.specs.Table.{mostRelays}
+use Rattle.ring.specs.Most.{mostRelays}
 use Rattle.order.specs.Keys.{ringKey, slotRelay, Slot, Ordered}
 use Rattle.home.specs.Home.{keyAt, Home}
 use Rattle.nearest.specs.Nearest.{Enters, itself, round, HomeAt}

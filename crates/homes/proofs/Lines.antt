@@ -8,7 +8,7 @@ use Prim.Native.Nat.{ℕ, _+_, _-_, _*_, _%_, _^_, _<_}
 use native.Mathlib.Omega.{arith}
 use borrow.Author.Tests.{lt-ltb, le-ltb}
 use lib.ListN.{getD}
-use Rattle.lent.specs.Table.{mostRelays}
+use Rattle.ring.specs.Most.{mostRelays}
 use Rattle.order.specs.Keys.{slotRelay}
 use Rattle.homes.specs.Shift.{skip, raised, lowered}
 use Rattle.homes.proofs.Skipping.{Skip, low, high, skip-cases}

@@ -7,7 +7,7 @@ use mathlib.Core.Path.{_≡_, refl, sym, ap, _∙_}
 use Prim.Native.Nat.{ℕ, _+_, _*_, _^_, _≤_, _<_}
 use native.Mathlib.Omega.{arith}
 use lib.ListN.{getD}
-use Rattle.lent.specs.Table.{mostRelays}
+use Rattle.ring.specs.Most.{mostRelays}
 use Rattle.order.specs.Keys.{ringKey, slotRelay, Slot, Ordered}
 use Rattle.home.specs.Home.{keyAt, Home}
 use Rattle.homes.specs.Shift.{skip, KeysMore}

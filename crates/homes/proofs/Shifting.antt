@@ -13,8 +13,8 @@ use native.Mathlib.Omega.{arith}
 use borrow.Author.Count.{below-more}
 use lib.ListN.{length, getD, set, length-set}
 use lib.Seq.{getD-set-same, getD-set-other}
+use Rattle.ring.specs.Most.{mostRelays}
 use Rattle.ring.specs.Scheme.{Positions}
-use Rattle.lent.specs.Table.{mostRelays}
 use Rattle.lent.proofs.Loops.{stored}
 use Rattle.order.specs.Keys.{slotRelay, Slot}
 use Rattle.home.specs.Home.{keyAt, Home}

@@ -9,8 +9,9 @@ use Prim.Native.Nat.{ℕ, _+_, _*_, _^_, _≤_, _<_}
 use native.Mathlib.Decide.{decLt}
 use native.Mathlib.Omega.{arith}
 use lib.ListN.{getD}
+use Rattle.ring.specs.Most.{mostRelays}
 use Rattle.ring.specs.Scheme.{Positions}
-use Rattle.lent.specs.Table.{mostRelays, relayNumber, tabletNumber}
+use Rattle.lent.specs.Table.{relayNumber, tabletNumber}
 use Rattle.lent.specs.Placing.{relayPositions}
 use Rattle.lent.proofs.Loops.{array-at}
 use Rattle.order.specs.Keys.{ringKey, slotRelay, Ordered}

@@ -6,9 +6,10 @@ use mathlib.Core.Path.{_≡_}
 use Prim.Native.Nat.{ℕ, _+_, _-_, _%_, _^_, _≤_, _<_}
 use lib.Dec.{ltb}
 use lib.ListN.{length, getD}
+use Rattle.ring.specs.Most.{mostRelays, mostTablets}
 use Rattle.ring.specs.Scheme.{Positions}
 use Rattle.ring.specs.Clockwise.{sooner}
-use Rattle.lent.specs.Table.{mostRelays, mostTablets, tabletNumber, TabletsIn}
+use Rattle.lent.specs.Table.{tabletNumber, TabletsIn}
 use Rattle.lent.specs.Placing.{relayPositions}
 use Rattle.order.specs.Keys.{slotRelay, KeysRise, Ordered}
 use Rattle.home.specs.Home.{keyAt, Home}

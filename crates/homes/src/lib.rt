@@ -3,9 +3,10 @@
 ghost use mathlib.Core.Path.{_≡_};
 ghost use Prim.Native.Nat.{ℕ, _+_, _-_, _^_, _<_, _≤_};
 ghost use lib.ListN.{length, getD};
+ghost use Rattle.ring.specs.Most.{mostRelays, mostTablets};
 ghost use Rattle.ring.specs.Scheme.{positions};
 ghost use Rattle.ring.specs.Clockwise.{sooner};
-ghost use Rattle.lent.specs.Table.{mostRelays, mostTablets, tabletPlaces, tabletNumber, TabletsIn};
+ghost use Rattle.lent.specs.Table.{tabletPlaces, tabletNumber, TabletsIn};
 ghost use Rattle.order.specs.Keys.{slotRelay, Slot};
 ghost use Rattle.nearest.specs.Nearest.{inSlots};
 ghost use Rattle.homes.specs.Shift.{skip, raised, lowered, KeysLess, KeysMore};
@@ -13,8 +14,8 @@ ghost use Rattle.homes.specs.Homes.{HomesMoved, homeLess, lessAt, slotAf
 
 // The keys in ring order, and for each tablet the slot that its walk goes from.
 pub struct Around {
-    pub keys: [u64; 256],
-    pub home: [u8; 4096],
+    pub keys: [u64; ring::MOST_RELAYS],
+    pub home: [u8; ring::MOST_TABLETS],
 }
 
 fn skip(s: usize, k: usize) -> usize
@@ -29,12 +30,12 @@ fn skip(s: usize, k: usize) -> usize
 fn lowered(key: u64, at: usize) -> u64
     ensures { λ r. ⌜ r ≡ lowered at key ⌝ }
 {
-    let i = (key % 256) as usize;
+    let i = (key % order::PLACES) as usize;
     if at < i { key - 1 } else { key }
 }
 
 // The slot of the relay at place `at`.
-fn slot_of(keys: &[u64; 256], n: usize, at: usize) -> usize
+fn slot_of(keys: &[u64; ring::MOST_RELAYS], n: usize, at: usize) -> usize
     requires { ⌜ (n ≤ mostRelays) × Slot (now keys) n at ⌝ }
     ensures { λ r. ⌜ (r < n) × (slotRelay (now (keys .entry)) r ≡ at) ⌝ }
 {
@@ -49,11 +50,16 @@ fn slot_of(keys: &[u64; 256], n: usize, at: usize) -> usize
 }
 
 // The keys of the n other relays.
-fn keys_less(keys: &[u64; 256], n: usize, s: usize, at: usize) -> [u64; 256]
+fn keys_less(
+    keys: &[u64; ring::MOST_RELAYS],
+    n: usize,
+    s: usize,
+    at: usize,
+) -> [u64; ring::MOST_RELAYS]
     requires { ⌜ n < mostRelays ⌝ }
     ensures { λ r. ⌜ KeysLess n s at (now (keys .entry)) r ⌝ }
 {
-    let mut less = [0u64; 256];
+    let mut less = [0u64; ring::MOST_RELAYS];
     let mut k: usize = 0;
     while k < n {
         let from = skip(s, k);
@@ -69,7 +75,7 @@ fn home_less(s: u8, h: u8) -> u8
     if s < h { h - 1 } else { h }
 }
 
-fn homes_less(home: &mut [u8; 4096], m: usize, s: u8)
+fn homes_less(home: &mut [u8; ring::MOST_TABLETS], m: usize, s: u8)
     requires { ⌜ (m ≤ mostTablets) × (length (now home) ≡ mostTablets) ⌝ }
     ensures { λ _. ⌜ HomesMoved (lessAt s) m (now (home .entry)) (now (home .exit)) ⌝ }
 {
@@ -102,16 +108,22 @@ fn raised(key: u64, at: usize) -> u64
     requires { ⌜ key < 2 ^ 64 - 1 ⌝ }
     ensures { λ r. ⌜ r ≡ raised at key ⌝ }
 {
-    let i = (key % 256) as usize;
+    let i = (key % order::PLACES) as usize;
     if i < at { key } else { key + 1 }
 }
 
 // The keys of the n other relays, and x at slot s.
-fn keys_more(keys: &[u64; 256], n: usize, s: usize, at: usize, x: u64) -> [u64; 256]
+fn keys_more(
+    keys: &[u64; ring::MOST_RELAYS],
+    n: usize,
+    s: usize,
+    at: usize,
+    x: u64,
+) -> [u64; ring::MOST_RELAYS]
     requires { ⌜ (n < mostRelays) × (s ≤ n) × ((k : ℕ) → k < n → getD (now keys) k 0 < 2 ^ 64 - 1) ⌝ }
     ensures { λ r. ⌜ KeysMore n s at x (now (keys .entry)) r ⌝ }
 {
-    let mut more = [0u64; 256];
+    let mut more = [0u64; ring::MOST_RELAYS];
     let mut k: usize = 0;
     while k < n {
         let to = skip(s, k);
@@ -135,7 +147,7 @@ fn comes_first(
     scheme: u32,
     tablets: &[u32],
     j: usize,
-    keys: &[u64; 256],
+    keys: &[u64; ring::MOST_RELAYS],
     k: usize,
     s: usize,
 ) -> bool
@@ -151,7 +163,7 @@ fn home_more(
     scheme: u32,
     tablets: &[u32],
     j: usize,
-    keys: &[u64; 256],
+    keys: &[u64; ring::MOST_RELAYS],
     s: usize,
     k: usize,
     h: u8,
@@ -160,7 +172,7 @@ fn home_more(
     ensures { λ r. ⌜ r ≡ homeMore (now (keys .entry)) s k (positions scheme .tabletAt (tabletNumber (now (tablets .entry)) j)) h ⌝ }
 {
     let was = h as usize;
-    let next = ((was + 1) % 256) as u8;
+    let next = ((was + 1) % ring::MOST_RELAYS) as u8;
     if was == s {
         let past = comes_first(scheme, tablets, j, keys, k, s);
         if past {
@@ -174,9 +186,9 @@ fn home_more(
 fn homes_more(
     scheme: u32,
     tablets: &[u32],
-    home: &mut [u8; 4096],
+    home: &mut [u8; ring::MOST_TABLETS],
     m: usize,
-    keys: &[u64; 256],
+    keys: &[u64; ring::MOST_RELAYS],
     s: usize,
     k: usize,
 )
@@ -205,7 +217,7 @@ pub fn put_in(
     ensures { λ r. ⌜ PutIn (positions scheme) (now (tablets .entry)) n m at (q .0) (around .keys) (around .home) r ⌝ }
 {
     let keys = around.keys;
-    let x = (q.0 as u64) * 4294967296 + (at as u64);
+    let x = (q.0 as u64) * ring::NUMBERS + (at as u64);
     let s = home::advance(&keys, n, 0, x);
     let more = keys_more(&keys, n, s, at, x);
     let mut home = around.home;

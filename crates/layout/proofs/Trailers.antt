@@ -11,8 +11,8 @@ use native.Mathlib.Omega.{arith}
 use borrow.Author.Tests.{leb-true, eqb-true, le-leb, lt-leb, eq-eqb, ne-eqb}
 use lib.Dec.{eqb, leb}
 use lib.ListN.{length}
+use Rattle.ring.specs.Most.{mostRelays, mostTablets}
 use Rattle.ring.proofs.Tests.{split, true-false, and-left, and-right}
-use Rattle.lent.specs.Table.{mostRelays, mostTablets}
 use Rattle.layout.specs.declared.Trailer.{Trailer}
 use Rattle.layout.specs.Opened.{opened, unopened, trailerOf}
 use Rattle.layout.specs.Roster.{trailerBytes, field, relayDistance, relayCount, tabletDistance, tabletCount, rosterScheme, entryBytes, shaped, shapeRight, block, rosterRing, Shape}

@@ -5,9 +5,9 @@ use mathlib.Core.Path.{_≡_}
 use Prim.Native.Nat.{ℕ, _+_, _*_, _-_, _≤_}
 use lib.Dec.{eqb, leb}
 use lib.ListN.{length}
+use Rattle.ring.specs.Most.{mostRelays, mostTablets}
 use Rattle.rule.specs.Entry.{Entry}
 use Rattle.rule.specs.Rule.{Ring}
-use Rattle.lent.specs.Table.{mostRelays, mostTablets}
 use Rattle.meaning.specs.Meaning.{places}
 use Rattle.layout.specs.Numbers.{numberBytes, numberAt}
 

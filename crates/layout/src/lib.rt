@@ -76,10 +76,10 @@ fn shaped(
 ) -> bool
     ensures { λ r. ⌜ r ≡ shaped len «relay_distance» relays «tablet_distance» tablets ⌝ }
 {
-    if relays > lent::MOST_RELAYS {
+    if relays > ring::MOST_RELAYS {
         return false;
     }
-    if tablets > lent::MOST_TABLETS {
+    if tablets > ring::MOST_TABLETS {
         return false;
     }
     if tablet_distance != TRAILER_BYTES + ENTRY_BYTES * tablets {

@@ -16,9 +16,9 @@ use native.Mathlib.Numerals.{add-one}
 use native.Mathlib.Omega.{arith}
 use lib.ListN.{length, getD, set, replicate, length-set}
 use lib.Seq.{getD-set-same, getD-set-other}
+use Rattle.ring.specs.Most.{mostRelays}
 use Rattle.ring.proofs.Tests.{split, true-false}
 use Rattle.lent.specs.Shape.{all}
-use Rattle.lent.specs.Table.{mostRelays}
 use Rattle.lent.specs.Placing.{array}
 
 pub eq-or-ne : (a b : ℕ) → (a ≡ b) ⊎ (a ≡ b → ⊥)

@@ -13,8 +13,8 @@ use native.Mathlib.Omega.{arith, min-cases}
 use borrow.Author.Tests.{ltb-true, lt-ltb, le-ltb}
 use lib.Dec.{ltb}
 use lib.ListN.{getD}
+use Rattle.ring.specs.Most.{mostRelays}
 use Rattle.ring.specs.Clockwise.{clockwise}
-use Rattle.lent.specs.Table.{mostRelays}
 use Rattle.lent.specs.Placing.{nobody, keyFrom, openKey, leastKey, firstWithRoom}
 use Rattle.lent.proofs.Loops.{eq-or-ne}
 

@@ -12,8 +12,9 @@ use native.Mathlib.Numerals.{add-one}
 use native.Mathlib.Omega.{arith}
 use lib.ListN.{length, getD, set, length-set, List·getD-eq-default}
 use lib.Seq.{getD-set-same, getD-set-other, set-out}
+use Rattle.ring.specs.Most.{mostRelays}
 use Rattle.ring.specs.Scheme.{Positions}
-use Rattle.lent.specs.Table.{mostRelays, relayLimit}
+use Rattle.lent.specs.Table.{relayLimit}
 use Rattle.lent.specs.Placing.{relayLimits, roomLess, roomAfter, relayFor}
 use Rattle.lent.proofs.Loops.{eq-or-ne, length-array, array-beyond}
 

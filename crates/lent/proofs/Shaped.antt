@@ -13,8 +13,9 @@ use native.Mathlib.Numerals.{add-one}
 use native.Mathlib.Omega.{arith}
 use borrow.Author.Tests.{ltb-true, leb-true, eqb-true, lt-ltb}
 use lib.Dec.{eqb, ltb, leb}
+use Rattle.ring.specs.Most.{mostRelays, mostTablets}
 use Rattle.ring.proofs.Tests.{and-left, and-right}
-use Rattle.lent.specs.Table.{mostRelays, relayPlaces, relayNumber, relayWhole, RelaysIn, mostTablets, tabletPlaces, tabletNumber, tabletWhole, TabletsIn}
+use Rattle.lent.specs.Table.{relayPlaces, relayNumber, relayWhole, RelaysIn, tabletPlaces, tabletNumber, tabletWhole, TabletsIn}
 use Rattle.lent.specs.Shape.{all, used, previous, entryRight, unused, entryAt, unusedAt, shape, relaysUsed, tabletsUsed, relayFits, tabletFits, relayShape, tabletShape}
 use Rattle.lent.proofs.Loops.{all-step, all-at}
 

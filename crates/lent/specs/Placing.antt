@@ -5,9 +5,10 @@ use mathlib.Core.List.{List}
 use Prim.Native.Nat.{ℕ, zero, suc, _+_, _-_, _*_, _%_, _^_, min}
 use lib.Dec.{eqb, ltb}
 use lib.ListN.{getD, set, replicate}
+use Rattle.ring.specs.Most.{mostRelays}
 use Rattle.ring.specs.Scheme.{Positions}
 use Rattle.ring.specs.Clockwise.{clockwise}
-use Rattle.lent.specs.Table.{mostRelays, relayNumber, relayLimit, tabletNumber, tabletRelay}
+use Rattle.lent.specs.Table.{relayNumber, relayLimit, tabletNumber, tabletRelay}
 use Rattle.lent.specs.Shape.{all, relaysUsed, tabletsUsed, relayShape, tabletShape}
 
 -- an array with a number for each relay: the first n are f's, the others 0

@@ -4,8 +4,8 @@ use mathlib.Core.Bool.{Bool, true, _&&_, cond}
 use mathlib.Core.List.{List}
 use Prim.Native.Nat.{ℕ, zero, suc, _+_, _-_, _^_}
 use lib.Dec.{eqb, ltb, leb}
-use Rattle.rule.specs.Rule.{mostLimit}
-use Rattle.lent.specs.Table.{mostRelays, relayPlaces, relayNumber, relayLimit, relayWhole, mostTablets, tabletPlaces, tabletNumber, tabletRelay, tabletWhole}
+use Rattle.ring.specs.Most.{topNumber, mostRelays, mostTablets, mostLimit}
+use Rattle.lent.specs.Table.{relayPlaces, relayNumber, relayLimit, relayWhole, tabletPlaces, tabletNumber, tabletRelay, tabletWhole}
 
 -- f is true of every number below n
 unfoldable pub all : (ℕ → Bool) → ℕ → Bool
@@ -44,10 +44,6 @@ shape top number beside n places = leb n places && (all (entryAt top number besi
 
 -- ---- the two tables
 
--- what stands beside a tablet may be any 32-bit number
-abbrev pub topNumber : ℕ
-topNumber = 2 ^ 32 - 1
-
 unfoldable pub relaysUsed : List ℕ → ℕ
 relaysUsed rs = used (relayNumber rs) (relayPlaces rs)
 
@@ -65,5 +61,6 @@ tabletFits ts = tabletWhole ts && leb (tabletPlaces ts) mostTablets
 unfoldable pub relayShape : List ℕ → ℕ → Bool
 relayShape rs n = relayFits rs && shape mostLimit (relayNumber rs) (relayLimit rs) n (relayPlaces rs)
 
+-- what stands beside a tablet may be any 32-bit number
 unfoldable pub tabletShape : List ℕ → ℕ → Bool
 tabletShape ts m = tabletFits ts && shape topNumber (tabletNumber ts) (tabletRelay ts) m (tabletPlaces ts)

@@ -6,13 +6,7 @@ use mathlib.Core.List.{List}
 use Prim.Native.Nat.{ℕ, _+_, _*_, _/_, _%_, _≤_}
 use lib.Dec.{eqb}
 use lib.ListN.{length, getD}
-
--- the most places of each table that may be lent
-abbrev pub mostRelays : ℕ
-mostRelays = 256
-
-abbrev pub mostTablets : ℕ
-mostTablets = 4096
+use Rattle.ring.specs.Most.{mostRelays, mostTablets}
 
 -- ---- the relay table: number, limit
 

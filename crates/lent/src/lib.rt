@@ -6,9 +6,12 @@ ghost use Prim.Native.Nat.{_<_};
 ghost use Rattle.lent.specs.Table.{relayPlaces, relayNumber, relayLimit, relayWhole, tabletPlaces, tabletNumber, tabletRelay, tabletWhole};
 ghost use Rattle.lent.specs.Shape.{relayFits, tabletFits};
 
-pub const MOST_RELAYS: usize = 256;
+// The numbers of tables with all the places that may be lent, two to a place; and of as many moves as there may be tablets, three to a move.
+pub const RELAY_NUMBERS: usize = 2 * ring::MOST_RELAYS;
 
-pub const MOST_TABLETS: usize = 4096;
+pub const TABLET_NUMBERS: usize = 2 * ring::MOST_TABLETS;
+
+pub const MOVE_NUMBERS: usize = 3 * ring::MOST_TABLETS;
 
 // ---- the relay table: number, limit
 
@@ -78,7 +81,10 @@ pub fn both(a: bool, b: bool) -> bool
 pub fn relay_fits(relays: &[u32]) -> bool
     ensures { λ r. ⌜ r ≡ relayFits (now (relays .entry)) ⌝ }
 {
-    both(relay_whole(relays), relay_places(relays) <= MOST_RELAYS)
+    both(
+        relay_whole(relays),
+        relay_places(relays) <= ring::MOST_RELAYS,
+    )
 }
 
 pub fn tablet_fits(tablets: &[u32]) -> bool
@@ -86,6 +92,6 @@ pub fn tablet_fits(tablets: &[u32]) -> bool
 {
     both(
         tablet_whole(tablets),
-        tablet_places(tablets) <= MOST_TABLETS,
+        tablet_places(tablets) <= ring::MOST_TABLETS,
     )
 }

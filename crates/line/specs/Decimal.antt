@@ -5,6 +5,7 @@ use mathlib.Core.List.{List, [], _∷_}
 use Prim.Native.Nat.{ℕ, _+_, _*_, _-_}
 use lib.Dec.{eqb, ltb, leb}
 use lib.ListN.{length}
+use Rattle.ring.specs.Most.{topNumber}
 use Rattle.line.specs.declared.Number.{Number}
 use Rattle.line.specs.declared.Number.the-variants.{Is, Not}
 
@@ -27,7 +28,7 @@ leadingZero (b ∷ []) = false
 leadingZero (b ∷ c ∷ more) = eqb b 48
 
 unfoldable pub plain : List ℕ → Bool
-plain word = ltb 0 (length word) && (allDigits word && (not (leadingZero word) && leb (value 0 word) 4294967295))
+plain word = ltb 0 (length word) && (allDigits word && (not (leadingZero word) && leb (value 0 word) topNumber))
 
 unfoldable pub decimalOf : List ℕ → Number
 decimalOf word = cond (plain word) (Is (value 0 word)) Not

@@ -6,7 +6,7 @@ ghost use Rattle.line.specs.Decimal.{digit, withByte, withBytes, leading
 ghost use Rattle.line.specs.Line.{words, withOne, withTwo, said, meaningOf, schemeOf, knownOr};
 
 // The greatest number and one more, which stands for what is no number.
-const NONE: u64 = 4294967296;
+const NONE: u64 = ring::NUMBERS;
 
 // A plain decimal, or none.
 pub enum Number {

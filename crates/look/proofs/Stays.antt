@@ -8,10 +8,11 @@ use mathlib.Core.Path.{_≡_, sym, ap, _∙_}
 use mathlib.Core.List.{List}
 use Prim.Native.Nat.{ℕ, _≤_}
 use lib.ListN.{length}
+use Rattle.ring.specs.Most.{mostRelays}
 use Rattle.ring.specs.Scheme.{positions}
 use Rattle.rule.specs.Entry.{Entry}
 use Rattle.rule.specs.Rule.{Ring}
-use Rattle.lent.specs.Table.{mostRelays, relayPlaces, relayNumber, relayLimit, relayWhole, tabletPlaces, tabletNumber, tabletRelay, tabletWhole}
+use Rattle.lent.specs.Table.{relayPlaces, relayNumber, relayLimit, relayWhole, tabletPlaces, tabletNumber, tabletRelay, tabletWhole}
 use Rattle.survey.specs.declared.Survey.{Survey}
 use Rattle.meaning.specs.Meaning.{relaysIn, tabletsIn}
 use Rattle.meaning.specs.Rising.{Rises}

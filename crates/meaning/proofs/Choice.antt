@@ -9,6 +9,7 @@ use native.Mathlib.Omega.{arith}
 use borrow.Author.Tests.{ltb-true, ltb-false}
 use lib.Dec.{ltb, eqb}
 use lib.ListN.{getD}
+use Rattle.ring.specs.Most.{mostRelays}
 use Rattle.ring.specs.Scheme.{Positions}
 use Rattle.ring.specs.Clockwise.{clockwise, key}
 use Rattle.ring.proofs.Tests.{split}
@@ -18,7 +19,7 @@ use Rattle.rule.specs.Rooms.{held, choose, orZero}
 use Rattle.rule.proofs.Rooms.{Best, choose-best, total-some}
 use Rattle.rule.proofs.Stable.{best-one}
 use Rattle.rule.proofs.Right.{held-small}
-use Rattle.lent.specs.Table.{mostRelays, relayNumber}
+use Rattle.lent.specs.Table.{relayNumber}
 use Rattle.lent.specs.Placing.{nobody, relayPositions, keyFrom, openKey, leastKey, firstWithRoom}
 use Rattle.lent.proofs.Nearest.{least-low, key-open, key-shut, first-open}
 use Rattle.meaning.specs.Meaning.{places}

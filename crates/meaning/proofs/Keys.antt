@@ -9,10 +9,11 @@ use native.Mathlib.Omega.{arith}
 use borrow.Author.Tests.{ltb-true, ltb-false}
 use lib.Dec.{ltb}
 use lib.ListN.{getD}
+use Rattle.ring.specs.Most.{mostRelays}
 use Rattle.ring.specs.Scheme.{Positions}
 use Rattle.ring.specs.Clockwise.{distance, key}
 use Rattle.ring.proofs.Tests.{split}
-use Rattle.lent.specs.Table.{mostRelays, relayNumber}
+use Rattle.lent.specs.Table.{relayNumber}
 use Rattle.lent.specs.Placing.{relayPositions, keyFrom}
 use Rattle.lent.proofs.Loops.{array-at}
 use Rattle.meaning.specs.Ascending.{Ascending}

@@ -9,11 +9,12 @@ use Prim.Native.Nat.{ℕ, _≤_, _<_}
 use native.Mathlib.Omega.{arith}
 use borrow.Author.Tests.{ltb-true, ltb-false, eqb-true}
 use lib.Dec.{eqb, ltb}
+use Rattle.ring.specs.Most.{mostRelays}
 use Rattle.ring.specs.Scheme.{Positions}
 use Rattle.ring.proofs.Tests.{split, and-left, and-right}
 use Rattle.rule.specs.Entry.{Entry, total, besideOf}
 use Rattle.lent.proofs.Loops.{all-at, all-of}
-use Rattle.lent.specs.Table.{mostRelays, relayNumber, tabletNumber, tabletRelay}
+use Rattle.lent.specs.Table.{relayNumber, tabletNumber, tabletRelay}
 use Rattle.lent.specs.Placing.{roomAfter, relayFor, placedAt, placed}
 use Rattle.lent.proofs.Placed.{placed-there}
 use Rattle.meaning.specs.Meaning.{relaysIn, tabletsIn}

@@ -16,9 +16,10 @@ use native.Mathlib.Omega.{arith}
 use borrow.Author.Tests.{ltb-true, ltb-false, leb-true, eqb-true, eqb-false, le-leb}
 use lib.Dec.{eqb, ltb, leb}
 use lib.ListN.{length, length-append}
+use Rattle.ring.specs.Most.{mostLimit}
 use Rattle.ring.proofs.Tests.{split, and-left, and-right}
 use Rattle.rule.specs.Entry.{Entry, entry, numbers, has, besideOf}
-use Rattle.rule.specs.Rule.{limitsFit, mostLimit}
+use Rattle.rule.specs.Rule.{limitsFit}
 use Rattle.rule.specs.Rooms.{held}
 use Rattle.rule.specs.Stability.{Rising, Sits}
 use Rattle.rule.specs.Facts.{Among, Table}

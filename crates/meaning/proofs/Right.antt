@@ -13,15 +13,15 @@ use native.Mathlib.Omega.{arith}
 use borrow.Author.Tests.{ltb-true, ltb-false}
 use lib.Dec.{ltb}
 use lib.ListN.{getD}
+use Rattle.ring.specs.Most.{topNumber, mostRelays, mostTablets, mostLimit}
 use Rattle.ring.specs.Scheme.{Positions, positions}
 use Rattle.ring.proofs.Tests.{split, and-left, and-right}
 use Rattle.rule.specs.Entry.{Entry, load}
 use Rattle.rule.specs.Rule as Rule
-use Rattle.rule.specs.Rule.{mostLimit}
 use Rattle.rule.specs.Facts.{Right}
 use Rattle.rule.proofs.Right as Right
-use Rattle.lent.specs.Table.{mostRelays, relayPlaces, relayNumber, relayLimit, relayWhole, mostTablets, tabletPlaces, tabletNumber, tabletRelay, tabletWhole}
-use Rattle.lent.specs.Shape.{topNumber, relaysUsed, tabletsUsed, relayFits, tabletFits, relayShape, tabletShape, shape}
+use Rattle.lent.specs.Table.{relayPlaces, relayNumber, relayLimit, relayWhole, tabletPlaces, tabletNumber, tabletRelay, tabletWhole}
+use Rattle.lent.specs.Shape.{relaysUsed, tabletsUsed, relayFits, tabletFits, relayShape, tabletShape, shape}
 use Rattle.lent.specs.Placing as Lent
 use Rattle.lent.proofs.Shaped.{used-most}
 use Rattle.meaning.specs.Meaning.{tabletsIn, ringOf, fitTables, tablesRight, Words}

@@ -13,6 +13,7 @@ use native.Mathlib.Omega.{arith}
 use borrow.Author.Tests.{eqb-true}
 use lib.Dec.{eqb}
 use lib.ListN.{getD}
+use Rattle.ring.specs.Most.{mostRelays}
 use Rattle.ring.specs.Scheme.{Positions}
 use Rattle.ring.specs.Clockwise.{key}
 use Rattle.ring.proofs.Tests.{split}
@@ -20,7 +21,7 @@ use Rattle.rule.specs.Entry.{Entry, entry, numbers, total, load, count}
 use Rattle.rule.specs.Rooms.{held, less, fill}
 use Rattle.rule.proofs.Rooms.{held-less, total-less}
 use Rattle.rule.proofs.Placing as Placing
-use Rattle.lent.specs.Table.{mostRelays, relayNumber, relayLimit, tabletNumber, tabletRelay}
+use Rattle.lent.specs.Table.{relayNumber, relayLimit, tabletNumber, tabletRelay}
 use Rattle.lent.specs.Placing.{relayLimits, roomAfter, relayFor}
 use Rattle.lent.proofs.Loops.{array-at}
 use Rattle.lent.proofs.Room.{less-here, less-other}

@@ -5,7 +5,7 @@ use Prim.Native.Nat.{ℕ, _≤_, _<_}
 use Rattle.ring.specs.Scheme.{Positions}
 use Rattle.ring.specs.Clockwise.{key}
 use Rattle.rule.specs.Entry.{numbers, total}
-use Rattle.rule.specs.Rule.{mostLimit}
+use Rattle.ring.specs.Most.{mostLimit}
 use Rattle.rule.specs.Rooms.{fill}
 use Rattle.rule.specs.Facts.{Table, Right}
 use Rattle.lent.specs.Table.{relayNumber, relayLimit, RelaysIn, tabletNumber, tabletRelay, TabletsIn}

@@ -7,8 +7,8 @@ use Prim.Native.Nat.{ℕ, _+_, _*_, _/_, _^_, _≤_, _<_}
 use native.Mathlib.Decide.{decLt}
 use native.Mathlib.Omega.{arith}
 use lib.ListN.{getD}
+use Rattle.ring.specs.Most.{mostRelays}
 use Rattle.ring.specs.Clockwise.{clockwise, distance}
-use Rattle.lent.specs.Table.{mostRelays}
 use Rattle.order.specs.Keys.{ringKey, slotRelay, KeysRise, Ordered}
 use Rattle.home.specs.Home.{keyAt}
 use Rattle.nearest.specs.Nearest.{inSlots, Nearest, itself, round, HomeAt}

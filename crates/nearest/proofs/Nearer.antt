@@ -11,11 +11,11 @@ use native.Mathlib.Decide.{decLt}
 use native.Mathlib.Omega.{arith}
 use borrow.Author.Tests.{ltb-true, ltb-false, le-ltb}
 use lib.Dec.{ltb}
+use Rattle.ring.specs.Most.{mostRelays}
 use Rattle.ring.specs.Scheme.{Positions}
 use Rattle.ring.specs.Clockwise.{distance, sooner, key}
 use Rattle.ring.proofs.Order.{sooner-near, sooner-far, sooner-key}
 use Rattle.ring.proofs.Tests.{split}
-use Rattle.lent.specs.Table.{mostRelays}
 use Rattle.nearest.specs.Nearest.{inSlots, Nearest}
 
 module _ (keys : List ℕ) (t k l : ℕ) (hk : k < mostRelays) (hl : l < mostRelays) where

@@ -2,18 +2,18 @@
 // and equal distances by slot, which is by relay number.
 ghost use mathlib.Core.Path.{_≡_};
 ghost use Prim.Native.Nat.{_/_, _^_, _<_, _≤_};
+ghost use Rattle.ring.specs.Most.{mostRelays};
 ghost use Rattle.ring.specs.Clockwise.{distance, sooner};
-ghost use Rattle.lent.specs.Table.{mostRelays};
 ghost use Rattle.nearest.specs.Nearest.{inSlots, Nearest};
 
 fn position_of(key: u64) -> ring::Position
     ensures { λ q. ⌜ q .0 ≡ key / 2 ^ 32 ⌝ }
 {
-    ring::Position((key / 4294967296) as u32)
+    ring::Position((key / ring::NUMBERS) as u32)
 }
 
 // How far clockwise the relay at slot k is from position p.
-fn away(keys: &[u64; 256], k: usize, p: ring::Position) -> u32
+fn away(keys: &[u64; ring::MOST_RELAYS], k: usize, p: ring::Position) -> u32
     requires { ⌜ k < mostRelays ⌝ }
     ensures { λ d. ⌜ d ≡ distance (inSlots (now (keys .entry))) (p .0) k ⌝ }
 {
@@ -21,7 +21,7 @@ fn away(keys: &[u64; 256], k: usize, p: ring::Position) -> u32
 }
 
 // Does p come to slot k ahead of slot l?
-pub fn sooner(keys: &[u64; 256], k: usize, l: usize, p: ring::Position) -> bool
+pub fn sooner(keys: &[u64; ring::MOST_RELAYS], k: usize, l: usize, p: ring::Position) -> bool
     requires { ⌜ (k < mostRelays) × (l < mostRelays) ⌝ }
     ensures { λ r. ⌜ r ≡ sooner (inSlots (now (keys .entry))) (p .0) k l ⌝ }
 {
@@ -31,7 +31,7 @@ pub fn sooner(keys: &[u64; 256], k: usize, l: usize, p: ring::Position) -> bool
 }
 
 // The home of p: of n slots the one that it comes to first, and 0 where there is none.
-pub fn home(keys: &[u64; 256], n: usize, p: ring::Position) -> usize
+pub fn home(keys: &[u64; ring::MOST_RELAYS], n: usize, p: ring::Position) -> usize
     requires { ⌜ n ≤ mostRelays ⌝ }
     ensures { λ r. ⌜ Nearest (now (keys .entry)) n (p .0) r ⌝ }
 {

@@ -5,9 +5,10 @@ use mathlib.Core.List.{List}
 use mathlib.Core.Path.{_≡_, ap, _∙_}
 use Prim.Native.Nat.{ℕ, _^_, _≤_, _<_}
 use native.Mathlib.Omega.{arith}
+use Rattle.ring.specs.Most.{mostRelays}
 use Rattle.ring.specs.Scheme.{Positions}
 use Rattle.rule.specs.Order.{order}
-use Rattle.lent.specs.Table.{mostRelays, relayNumber, relayLimit}
+use Rattle.lent.specs.Table.{relayNumber, relayLimit}
 use Rattle.lent.specs.Placing.{relayPositions}
 use Rattle.order.specs.Keys.{slotRelay, Ordered}
 use Rattle.nearest.specs.Nearest.{Nearest, Enters, itself, round, HomeAt}

@@ -13,6 +13,7 @@ use native.Mathlib.Numerals.{add-one}
 use borrow.Author.Tests.{ltb-true, ltb-false, lt-ltb, le-ltb, eqb-true, eqb-false}
 use lib.Dec.{eqb, ltb}
 use lib.ListN.{length, getD, length-append}
+use Rattle.ring.specs.Most.{mostRelays}
 use Rattle.ring.specs.Scheme.{Positions, positions}
 use Rattle.ring.specs.declared.TabletNumber.{TabletNumber}
 use Rattle.ring.proofs.Tests.{split, and-left, and-right, true-false}
@@ -32,7 +33,7 @@ use Rattle.rule.proofs.Counts.{length-insert}
 use Rattle.rule.proofs.Demand3.{in-has}
 use Rattle.rule.proofs.Listing.{Chain}
 use Rattle.rule.proofs.Outcomes.{enrol-chain, enrol-after, enrol-moves, enrol-relay, enrol-passed}
-use Rattle.lent.specs.Table.{mostRelays, relayNumber, relayLimit, tabletNumber, tabletRelay, tabletPlaces}
+use Rattle.lent.specs.Table.{relayNumber, relayLimit, tabletNumber, tabletRelay, tabletPlaces}
 use Rattle.order.specs.Keys.{slotRelay}
 use Rattle.nearest.specs.Nearest.{Nearest}
 use Rattle.survey.specs.declared.Survey.{Survey}

@@ -5,6 +5,7 @@ use mathlib.Core.Path.{_≡_}
 use Prim.Native.Nat.{ℕ, zero, suc, _*_, _^_, _≤_, _<_}
 use lib.Dec.{eqb, ltb, leb}
 use lib.ListN.{length, getD}
+use Rattle.ring.specs.Most.{mostRelays}
 use Rattle.ring.specs.Scheme.{Positions, positions}
 use Rattle.ring.specs.declared.TabletNumber.{TabletNumber}
 use Rattle.rule.specs.declared.Refusal.{Refusal}
@@ -47,7 +48,7 @@ othersOf x rs ts place seat (suc c) = othersOf x rs ts place seat c ++ (linkAt x
 
 -- what the seating is made from: right places for all who gave way
 pub record Seatable (rs ts ms place seat : List ℕ) (m others : ℕ) : Type 0 where
-  pub few : others < 256
+  pub few : others < mostRelays
   pub tablets : m ≤ tabletPlaces ts
   pub climbs : Climbs (tabletNumber ts) m
   pub places : (i : ℕ) → 0 < i → i ≤ others → getD place i 0 < m
@@ -59,7 +60,7 @@ pub record Seatable (rs ts ms place seat : List ℕ) (m others : ℕ) : Type 0 w
 -- what is to be written once nothing refuses the call: the newcomer's place, and who sits down where
 pub record Worked (scheme : ℕ) (rs ts ms : List ℕ) (t : TabletNumber) (m at : ℕ) (c : Chain) : Type 0 where
   pub seatable : Seatable rs ts ms (c .place) (c .seat) m (c .others)
-  pub short : c .steps < 256
+  pub short : c .steps < mostRelays
   pub above : Rising (t .0) (tabletsListed (othersOf (t .0) rs ts (c .place) (c .seat) (c .others)))
   pub unused : m < tabletPlaces ts
   pub place : Place (tabletNumber ts) m (t .0) at

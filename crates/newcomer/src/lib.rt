@@ -6,8 +6,8 @@ ghost use mathlib.Core.List.{List};
 ghost use lib.Dec.{ltb};
 ghost use Prim.Native.Nat.{ℕ, _/_, _≤_};
 ghost use lib.ListN.{length};
+ghost use Rattle.ring.specs.Most.{mostRelays};
 ghost use Rattle.ring.specs.Scheme.{positions};
-ghost use Rattle.lent.specs.Table.{mostRelays};
 ghost use Rattle.row.specs.Row.{Row};
 ghost use Rattle.newcomer.specs.Newcomer.{newcomerRefusal, Seeks, Prepared};
 
@@ -37,9 +37,9 @@ struct Sought {
 fn seek(
     scheme: u32,
     n: usize,
-    keys: &[u64; 256],
-    room: &[u32; 256],
-    next: &[u8; 256],
+    keys: &[u64; ring::MOST_RELAYS],
+    room: &[u32; ring::MOST_RELAYS],
+    next: &[u8; ring::MOST_RELAYS],
     t: ring::TabletNumber,
 ) -> Sought
     requires { ⌜ (n ≤ mostRelays) × Row (now keys) (now room) n 0 (now next) ⌝ }
@@ -84,8 +84,8 @@ fn no_enrolment(refusal: rule::Refusal) -> Enrolment
         chain: chain::Chain {
             others: 0,
             steps: 0,
-            place: [0u16; 256],
-            seat: [0u8; 256],
+            place: [0u16; ring::MOST_RELAYS],
+            seat: [0u8; ring::MOST_RELAYS],
         },
     }
 }

@@ -3,14 +3,13 @@ ghost use mathlib.Core.Path.{_≡_};
 ghost use Rattle.ring.specs.Scheme.{positions};
 ghost use Rattle.lent.specs.Table.{RelaysIn};
 ghost use Rattle.lent.specs.Placing.{relayPositions, relayLimits};
-use lent::MOST_RELAYS;
 
 // Where the n relays in use stand on the ring.
-pub fn relay_positions(scheme: u32, relays: &[u32], n: usize) -> [u32; MOST_RELAYS]
+pub fn relay_positions(scheme: u32, relays: &[u32], n: usize) -> [u32; ring::MOST_RELAYS]
     requires { ⌜ RelaysIn (now relays) n ⌝ }
     ensures { λ r. ⌜ r ≡ relayPositions (positions scheme) (now (relays .entry)) n ⌝ }
 {
-    let mut position = [0u32; MOST_RELAYS];
+    let mut position = [0u32; ring::MOST_RELAYS];
     let mut i: usize = 0;
     while i < n {
         let p = ring::relay_at(scheme, lent::relay_number(relays, i));
@@ -20,11 +19,11 @@ pub fn relay_positions(scheme: u32, relays: &[u32], n: usize) -> [u32; MOST_RELA
     position
 }
 
-pub fn relay_limits(relays: &[u32], n: usize) -> [u32; MOST_RELAYS]
+pub fn relay_limits(relays: &[u32], n: usize) -> [u32; ring::MOST_RELAYS]
     requires { ⌜ RelaysIn (now relays) n ⌝ }
     ensures { λ r. ⌜ r ≡ relayLimits (now (relays .entry)) n ⌝ }
 {
-    let mut limit = [0u32; MOST_RELAYS];
+    let mut limit = [0u32; ring::MOST_RELAYS];
     let mut i: usize = 0;
     while i < n {
         limit[i] = lent::relay_limit(relays, i);

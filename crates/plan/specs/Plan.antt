@@ -5,11 +5,11 @@ use mathlib.Core.Path.{_≡_}
 use Prim.Native.Nat.{ℕ, _≤_, _<_}
 use lib.Dec.{ltb}
 use lib.ListN.{length, getD}
+use Rattle.ring.specs.Most.{mostLimit}
 use Rattle.ring.specs.Scheme.{Positions}
 use Rattle.rule.specs.declared.Refusal.{Refusal}
 use Rattle.rule.specs.declared.Refusal.the-variants.{LimitsTooSmall, MoveListTooShort}
 use Rattle.rule.specs.Entry.{total}
-use Rattle.rule.specs.Rule.{mostLimit}
 use Rattle.rule.specs.Refusals.{isDone, bar, firstBar}
 use Rattle.lent.specs.Table.{relayPlaces, relayNumber, relayLimit, RelaysIn, TabletsIn}
 use Rattle.meaning.specs.Meaning.{relaysIn}

@@ -5,9 +5,10 @@ ghost use mathlib.Core.Path.{_≡_};
 ghost use Prim.Native.Nat.{_+_, _<_};
 ghost use lib.Dec.{eqb, leb};
 ghost use lib.ListN.{length, getD};
+ghost use Rattle.ring.specs.Most.{mostTablets};
 ghost use Rattle.ring.specs.Scheme.{Positions};
 ghost use Rattle.rule.specs.Entry.{total};
-ghost use Rattle.lent.specs.Table.{relayPlaces, mostTablets, tabletPlaces, tabletRelay};
+ghost use Rattle.lent.specs.Table.{relayPlaces, tabletPlaces, tabletRelay};
 ghost use Rattle.meaning.specs.Meaning.{relaysIn};
 ghost use Rattle.homes.specs.Homes.{Homes};
 ghost use Rattle.plan.specs.Changes.{newRelay, changesTo};
@@ -17,7 +18,7 @@ ghost use Rattle.plan.specs.Carried.{MovesOne, MovedOne, Carries, Carrie
 // A refusal; or for each tablet the place of its relay.
 pub struct Plan {
     pub refusal: rule::Refusal,
-    pub relay: [u8; 4096],
+    pub relay: [u8; ring::MOST_TABLETS],
 }
 
 // ---- whether the limits suffice
@@ -39,7 +40,12 @@ fn limit_sum(relays: &[u32], n: usize) -> usize
 // ---- how many move
 
 // 1 where tablet j is to have another relay than is written beside it.
-fn one_if_moves(relays: &[u32], relay: &[u8; 4096], tablets: &[u32], j: usize) -> usize
+fn one_if_moves(
+    relays: &[u32],
+    relay: &[u8; ring::MOST_TABLETS],
+    tablets: &[u32],
+    j: usize,
+) -> usize
     requires { ⌜ (j < mostTablets) × (j < tabletPlaces (now tablets)) × (getD (now relay) j 0 < relayPlaces (now relays)) ⌝ }
     ensures { λ r. ⌜ r ≡ cond (eqb (tabletRelay (now (tablets .entry)) j) (newRelay (now (relays .entry)) (now (relay .entry)) j)) 0 1 ⌝ }
 {
@@ -49,7 +55,7 @@ fn one_if_moves(relays: &[u32], relay: &[u8; 4096], tablets: &[u32], j: usize) -
     if old.0 == new.0 { 0 } else { 1 }
 }
 
-fn count_moves(relays: &[u32], relay: &[u8; 4096], tablets: &[u32], m: usize) -> usize
+fn count_moves(relays: &[u32], relay: &[u8; ring::MOST_TABLETS], tablets: &[u32], m: usize) -> usize
     requires { ⌜ Assigned (now relays) (now relay) (now tablets) m ⌝ }
     ensures { λ r. ⌜ r ≡ length (changesTo (now (relays .entry)) (now (relay .entry)) (now (tablets .entry)) m) ⌝ }
 {
@@ -63,7 +69,13 @@ fn count_moves(relays: &[u32], relay: &[u8; 4096], tablets: &[u32], m: usize) ->
 }
 
 // Is there room for the moves in a list of so many places? No more tablets move than there are.
-fn moves_fit(relays: &[u32], relay: &[u8; 4096], tablets: &[u32], m: usize, places: usize) -> bool
+fn moves_fit(
+    relays: &[u32],
+    relay: &[u8; ring::MOST_TABLETS],
+    tablets: &[u32],
+    m: usize,
+    places: usize,
+) -> bool
     requires { ⌜ Assigned (now relays) (now relay) (now tablets) m ⌝ }
     ensures { λ b. ⌜ b ≡ leb (length (changesTo (now (relays .entry)) (now (relay .entry)) (now (tablets .entry)) m)) places ⌝ }
 {
@@ -81,7 +93,7 @@ fn no_plan(refusal: rule::Refusal) -> Plan
 {
     Plan {
         refusal: refusal,
-        relay: [0u8; 4096],
+        relay: [0u8; ring::MOST_TABLETS],
     }
 }
 
@@ -89,8 +101,8 @@ fn no_plan(refusal: rule::Refusal) -> Plan
 pub fn work_out<'a>(
     relays: &[u32],
     tablets: &[u32],
-    keys: &'a [u64; 256],
-    home: &'a [u8; 4096],
+    keys: &'a [u64; ring::MOST_RELAYS],
+    home: &'a [u8; ring::MOST_TABLETS],
     n: usize,
     m: usize,
     places: usize,
@@ -140,7 +152,7 @@ fn move_one(
 // Every tablet gets the relay that the array gives the place of, and the moves are listed; the answer is how many.
 pub fn carry_out(
     relays: &[u32],
-    relay: &[u8; 4096],
+    relay: &[u8; ring::MOST_TABLETS],
     tablets: &mut [u32],
     moves: &mut [u32],
     m: usize,

@@ -9,6 +9,7 @@ use native.Mathlib.Omega.{arith}
 use borrow.Author.Tests.{ltb-true, ltb-false, leb-false, lt-ltb, le-ltb, not-false}
 use lib.Dec.{eqb, ltb, leb}
 use lib.ListN.{length}
+use Rattle.ring.specs.Most.{mostTablets}
 use Rattle.ring.specs.Scheme.{known, Positions, positions}
 use Rattle.ring.proofs.Tests.{split}
 use Rattle.rule.specs.declared.Refusal.{Refusal}
@@ -22,7 +23,7 @@ use Rattle.rule.specs.Calls.{edited, moves, wrongNumbers, refusal, accepted, de
 use Rattle.rule.proofs.Accepted.{bar-passed}
 use Rattle.rule.proofs.Counts.{length-insert, delete-length}
 use Rattle.rule.proofs.Lengths.{moves-length}
-use Rattle.lent.specs.Table.{mostTablets, tabletPlaces, tabletNumber, tabletRelay}
+use Rattle.lent.specs.Table.{tabletPlaces, tabletNumber, tabletRelay}
 use Rattle.lent.specs.Shape.{tabletsUsed}
 use Rattle.lent.proofs.Shaped.{used-most}
 use Rattle.meaning.specs.Meaning.{ringOf, tablesRight, tablesBars}

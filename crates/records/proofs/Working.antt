@@ -5,12 +5,12 @@ use Prim.Native.Nat.{ℕ, _*_, _/_, _-_, _≤_, min}
 use native.Mathlib.Omega.{arith}
 use lib.ListN.{length, take, drop, length-append}
 use lib.Seq.{length-take-le, take-at, take-append-le}
+use Rattle.ring.specs.Most.{mostTablets}
 use Rattle.ring.specs.Scheme.{positions}
 use Rattle.rule.specs.declared.Call.{Call}
 use Rattle.rule.specs.declared.Move.{Move}
 use Rattle.rule.specs.declared.Reply.{Reply}
 use Rattle.rule.specs.Calls.{Outcome}
-use Rattle.lent.specs.Table.{mostTablets}
 use Rattle.promise.specs.Promise.{Answers}
 use Rattle.meaning.specs.Meaning.{ringOf, lentOf}
 use Rattle.write.specs.Tables.{flatMoves, listed}

@@ -3,6 +3,7 @@ use mathlib.Core.List.{List}
 use mathlib.Core.Path.{_≡_}
 use Prim.Native.Nat.{ℕ, _*_, _≤_}
 use lib.ListN.{take, length}
+use Rattle.ring.specs.Most.{mostTablets}
 use Rattle.rule.specs.declared.Call.{Call}
 use Rattle.rule.specs.declared.Reply.{Reply}
 use Rattle.write.specs.Tables.{flatMoves}
@@ -16,4 +17,4 @@ pub record Works (s : ℕ) (rs ts : List ℕ) (room : ℕ) (c : Call) (r : Reply
   pub count : r .moves ≡ length (outcomeWith s rs ts room c .moves)
   pub moves : take (3 * r .moves) numbers ≡ flatMoves (outcomeWith s rs ts room c .moves)
   pub fits : r .moves ≤ room
-  pub few : 3 * r .moves ≤ 12288
+  pub few : 3 * r .moves ≤ 3 * mostTablets

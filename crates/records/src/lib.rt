@@ -2,15 +2,13 @@
 ghost use mathlib.Core.Path.{_≡_};
 ghost use Prim.Native.Nat.{_+_, _*_, _<_, min};
 ghost use lib.ListN.{length};
+ghost use Rattle.ring.specs.Most.{mostTablets};
 ghost use Rattle.records.specs.Record.{moveAt};
 ghost use Rattle.records.specs.Working.{Works};
 
-// No call makes more moves than a tablet table may have places.
-const MOST_MOVES: usize = 4096;
-
 // Move i of the numbers.
-pub fn move_at(numbers: &[u32; 12288], i: usize) -> rule::Move
-    requires { ⌜ 3 * i + 2 < 12288 ⌝ }
+pub fn move_at(numbers: &[u32; lent::MOVE_NUMBERS], i: usize) -> rule::Move
+    requires { ⌜ 3 * i + 2 < 3 * mostTablets ⌝ }
     ensures { λ r. ⌜ r ≡ moveAt (now (numbers .entry)) i ⌝ }
 {
     let j = 3 * i;
@@ -30,9 +28,13 @@ pub fn made(reply: rule::Reply) -> usize
 
 // So many places of a move list as can be of use.
 fn useful(room: usize) -> usize
-    ensures { λ r. ⌜ r ≡ min room 4096 ⌝ }
+    ensures { λ r. ⌜ r ≡ min room mostTablets ⌝ }
 {
-    if room <= MOST_MOVES { room } else { MOST_MOVES }
+    if room <= ring::MOST_TABLETS {
+        room
+    } else {
+        ring::MOST_TABLETS
+    }
 }
 
 // The call on the tables, for a move list with so many places. Its moves are written into the numbers; no tally is lent to it.
@@ -44,7 +46,7 @@ pub fn work_on(
     room: usize,
     c: rule::Call,
 ) -> rule::Reply
-    requires { ⌜ length (now numbers) ≡ 12288 ⌝ }
+    requires { ⌜ length (now numbers) ≡ 3 * mostTablets ⌝ }
     ensures { λ r. ⌜ Works scheme (now (relays .entry)) (now (tablets .entry)) room c r (now (numbers .exit)) (now (relays .exit)) (now (tablets .exit)) ⌝ }
 {
     let mut none = [0u32; 1];

@@ -8,8 +8,9 @@ use Prim.Native.Nat.{ℕ, _+_, _%_, _≤_, _<_}
 use native.Mathlib.Nat.{not-suc-le-zero}
 use native.Mathlib.Omega.{arith}
 use lib.ListN.{length, getD, set, length-set}
+use Rattle.ring.specs.Most.{mostRelays, mostTablets}
 use Rattle.ring.specs.Scheme.{Positions}
-use Rattle.lent.specs.Table.{mostRelays, mostTablets, tabletNumber}
+use Rattle.lent.specs.Table.{tabletNumber}
 use Rattle.lent.specs.Placing.{relayPositions, relayLimits, roomLess, roomAfter, relayFor}
 use Rattle.lent.proofs.Loops.{stored}
 use Rattle.lent.proofs.Room.{room-more, room-size}

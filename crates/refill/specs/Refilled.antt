@@ -3,9 +3,10 @@ use mathlib.Core.List.{List}
 use mathlib.Core.Path.{_≡_}
 use Prim.Native.Nat.{ℕ, _≤_, _<_}
 use lib.ListN.{length, getD}
+use Rattle.ring.specs.Most.{mostTablets}
 use Rattle.ring.specs.Scheme.{Positions}
 use Rattle.rule.specs.Entry.{total}
-use Rattle.lent.specs.Table.{relayNumber, RelaysIn, mostTablets}
+use Rattle.lent.specs.Table.{relayNumber, RelaysIn}
 use Rattle.lent.specs.Placing.{relayFor}
 use Rattle.meaning.specs.Meaning.{relaysIn}
 use Rattle.meaning.specs.Ascending.{Ascending}

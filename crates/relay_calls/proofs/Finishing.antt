@@ -13,6 +13,7 @@ use native.Mathlib.Omega.{arith}
 use borrow.Author.Tests.{eqb-true, ltb-true, ltb-false, not-true, not-false}
 use lib.Dec.{ltb}
 use lib.ListN.{length}
+use Rattle.ring.specs.Most.{mostRelays, mostTablets}
 use Rattle.ring.specs.Scheme.{Positions, positions}
 use Rattle.ring.specs.Clockwise.{key}
 use Rattle.ring.proofs.Tests.{split, true-false}
@@ -28,7 +29,7 @@ use Rattle.rule.specs.Refusals.{isDone, replied, bareReply, firstBar}
 use Rattle.rule.specs.Calls.{edited, moved, moves, refusal, accepted}
 use Rattle.rule.specs.Calls as Calls
 use Rattle.rule.proofs.Accepted.{Edited, edited-tables, after-fill}
-use Rattle.lent.specs.Table.{mostTablets, mostRelays, relayPlaces, relayWhole, relayNumber, relayLimit, RelaysIn, tabletNumber, tabletRelay}
+use Rattle.lent.specs.Table.{relayPlaces, relayWhole, relayNumber, relayLimit, RelaysIn, tabletNumber, tabletRelay}
 use Rattle.meaning.specs.Meaning.{places, relaysIn, tabletsIn, ringOf, lentOf}
 use Rattle.meaning.specs.Ascending.{Ascending}
 use Rattle.meaning.specs.Rising.{Rises}

@@ -10,7 +10,7 @@ ghost use Rattle.relay_edit.specs.Edited.{ownNumbers, Edits};
 ghost use Rattle.relay_calls.specs.Finish.{Replaced, Comes};
 
 // The lent table becomes the call's own, as far as it is long.
-fn put_back(relays: &mut [u32], own: &[u32; 512])
+fn put_back(relays: &mut [u32], own: &[u32; lent::RELAY_NUMBERS])
     requires { ⌜ length (now relays) ≤ ownNumbers ⌝ }
     ensures { λ _. ⌜ Replaced (now (own .entry)) (now (relays .entry)) (now (relays .exit)) ⌝ }
 {

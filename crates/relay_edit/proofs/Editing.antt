@@ -12,6 +12,7 @@ use Prim.Native.Nat.{ℕ, _+_, _-_, _^_, _≤_, _<_}
 use borrow.Author.Tests.{leb-false, not-true, not-false}
 use lib.Dec.{eqb, ltb, leb}
 use native.Mathlib.Omega.{arith}
+use Rattle.ring.specs.Most.{mostRelays, mostLimit}
 use Rattle.ring.specs.Scheme.{positions}
 use Rattle.ring.specs.declared.RelayNumber.{RelayNumber}
 use Rattle.ring.proofs.Tests.{true-false}
@@ -20,11 +21,10 @@ use Rattle.rule.specs.declared.Refusal.the-variants.{NumberZero, TooLarge, NotT
 use Rattle.rule.specs.declared.Call.{Call}
 use Rattle.rule.specs.declared.Call.the-variants.{Add, Remove, Set}
 use Rattle.rule.specs.Entry.{has, insert, delete, put}
-use Rattle.rule.specs.Rule.{mostLimit}
 use Rattle.rule.specs.Refusals.{isDone, Bar, bar, firstBar}
 use Rattle.rule.specs.Calls.{subject, edited, relayOf, passed, wrongNumbers}
 use Rattle.rule.proofs.Accepted.{bar-passed}
-use Rattle.lent.specs.Table.{mostRelays, relayPlaces, relayNumber, relayLimit}
+use Rattle.lent.specs.Table.{relayPlaces, relayNumber, relayLimit}
 use Rattle.meaning.specs.Meaning.{relaysIn, ringOf, lentOf}
 use Rattle.write.specs.Wrote.{WroteRelays, Place, Climbs}
 use Rattle.place.specs.Places.{SetBeside}

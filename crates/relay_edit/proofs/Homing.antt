@@ -9,9 +9,10 @@ use mathlib.Core.List.{List}
 use mathlib.Core.Path.{_≡_, sym, ap, _∙_, subst}
 use Prim.Native.Nat.{ℕ, _+_, _-_, _^_, _≤_, _<_}
 use native.Mathlib.Omega.{arith}
+use Rattle.ring.specs.Most.{mostRelays, mostTablets}
 use Rattle.ring.specs.Scheme.{positions}
 use Rattle.rule.specs.Entry.{insert, delete}
-use Rattle.lent.specs.Table.{mostRelays, mostTablets, relayNumber, relayLimit, tabletNumber}
+use Rattle.lent.specs.Table.{relayNumber, relayLimit, tabletNumber}
 use Rattle.order.specs.Keys.{ringKey, slotRelay, Slot}
 use Rattle.survey.specs.Seats.{Surveyed}
 use Rattle.meaning.specs.Meaning.{relaysIn}

@@ -11,13 +11,14 @@ use Prim.Native.Nat.{ℕ, _+_, _-_, _%_, _^_, _≤_, _<_}
 use native.Mathlib.Omega.{arith}
 use borrow.Author.Tests.{eqb-true}
 use lib.ListN.{length}
+use Rattle.ring.specs.Most.{mostRelays}
 use Rattle.ring.specs.Scheme.{positions}
 use Rattle.ring.specs.declared.RelayNumber.{RelayNumber}
 use Rattle.rule.specs.declared.Call.the-variants.{Add, Remove, Set}
 use Rattle.rule.specs.Entry.{Entry, has, insert, delete, put}
 use Rattle.rule.specs.Rule.{Ring}
 use Rattle.rule.specs.Calls.{edited}
-use Rattle.lent.specs.Table.{mostRelays, relayPlaces, relayWhole, relayNumber, relayLimit}
+use Rattle.lent.specs.Table.{relayPlaces, relayWhole, relayNumber, relayLimit}
 use Rattle.meaning.specs.Meaning.{relaysIn, ringOf}
 use Rattle.meaning.specs.Rising.{Rises}
 use Rattle.meaning.proofs.Words.{relay-number-word}

@@ -4,6 +4,7 @@ use mathlib.Core.List.{List}
 use mathlib.Core.Path.{_≡_}
 use Prim.Native.Nat.{ℕ, _^_, _≤_, _<_}
 use lib.ListN.{length, getD}
+use Rattle.ring.specs.Most.{mostRelays}
 use Rattle.ring.specs.Scheme.{Positions, positions}
 use Rattle.rule.specs.declared.Call.{Call}
 use Rattle.rule.specs.Rule.{Ring}
@@ -20,7 +21,7 @@ use Rattle.relay_edit.specs.declared.Edit.{Edit}
 
 -- as many numbers as the longest relay table has
 abbrev pub ownNumbers : ℕ
-ownNumbers = 512
+ownNumbers = 2 * mostRelays
 
 -- the same numbers, and zeros behind them
 pub record Copied (rs own : List ℕ) : Type 0 where

@@ -4,9 +4,9 @@ use mathlib.Core.Bool.{Bool, not}
 use mathlib.Core.List.{[], _∷_}
 use Prim.Native.Nat.{ℕ}
 use lib.Dec.{eqb, ltb}
+use Rattle.ring.specs.Most.{mostLimit}
 use Rattle.rule.specs.declared.Refusal.{Refusal}
 use Rattle.rule.specs.declared.Refusal.the-variants.{NumberZero, TooLarge, NotThere, ThereAlready, NoUnusedPlace}
-use Rattle.rule.specs.Rule.{mostLimit}
 use Rattle.rule.specs.Refusals.{bar, firstBar}
 
 unfoldable pub addRefusal : ℕ → ℕ → Bool → Bool → Refusal

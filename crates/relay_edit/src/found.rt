@@ -15,8 +15,8 @@ pub struct Found {
 // Nothing is known of a ring.
 pub(crate) fn nowhere() -> homes::Around {
     homes::Around {
-        keys: [0u64; 256],
-        home: [0u8; 4096],
+        keys: [0u64; ring::MOST_RELAYS],
+        home: [0u8; ring::MOST_TABLETS],
     }
 }
 

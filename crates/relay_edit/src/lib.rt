@@ -9,15 +9,12 @@ ghost use lib.ListN.{length};
 ghost use Rattle.rule.specs.declared.Call.the-variants.{Add, Remove, Set};
 ghost use Rattle.relay_edit.specs.Edited.{ownNumbers, Copied, Edits};
 
-// As many numbers as the longest relay table.
-const OWN_NUMBERS: usize = 512;
-
 // A refusal; or how many relays and tablets there are to be, the relay table, and those relays in ring order with the tablets' homes.
 pub struct Edit {
     pub refusal: rule::Refusal,
     pub n: usize,
     pub m: usize,
-    pub relays: [u32; OWN_NUMBERS],
+    pub relays: [u32; lent::RELAY_NUMBERS],
     pub around: homes::Around,
 }
 
@@ -29,16 +26,16 @@ fn no_edit(refusal: rule::Refusal) -> Edit
         refusal: refusal,
         n: 0,
         m: 0,
-        relays: [0u32; OWN_NUMBERS],
+        relays: [0u32; lent::RELAY_NUMBERS],
         around: around,
     }
 }
 
-fn copied(relays: &[u32]) -> [u32; OWN_NUMBERS]
+fn copied(relays: &[u32]) -> [u32; lent::RELAY_NUMBERS]
     requires { ⌜ length (now relays) ≤ ownNumbers ⌝ }
     ensures { λ r. ⌜ Copied (now (relays .entry)) r ⌝ }
 {
-    let mut own = [0u32; OWN_NUMBERS];
+    let mut own = [0u32; lent::RELAY_NUMBERS];
     let mut i: usize = 0;
     while i < relays.len() {
         own[i] = relays[i];

@@ -2,13 +2,13 @@
 ghost use mathlib.Core.Path.{_≡_};
 ghost use Prim.Native.Nat.{_^_, _<_};
 ghost use lib.Dec.{ltb};
-ghost use Rattle.rule.specs.Rule.{mostLimit};
+ghost use Rattle.ring.specs.Most.{mostLimit};
 ghost use Rattle.relay_edit.specs.Refused.{addRefusal, setRefusal};
 
 fn too_large(limit: u32) -> bool
     ensures { λ b. ⌜ b ≡ ltb mostLimit limit ⌝ }
 {
-    rule::MOST_LIMIT < limit
+    ring::MOST_LIMIT < limit
 }
 
 pub(crate) fn add_refusal(

@@ -1,3 +1,4 @@
+pub mod Most
 pub mod Fnv
 pub mod Scheme
 pub mod Clockwise

@@ -12,6 +12,18 @@ pub struct RelayNumber(pub u32);
 
 pub struct Position(pub u32);
 
+// How many numbers, and so positions, there are; and the greatest.
+pub const NUMBERS: u64 = 4294967296;
+
+pub const TOP_NUMBER: u32 = 4294967295;
+
+// The most places of each table that may be lent, and the greatest limit that a relay may have ("The lent tables").
+pub const MOST_RELAYS: usize = 256;
+
+pub const MOST_TABLETS: usize = 4096;
+
+pub const MOST_LIMIT: u32 = 4096;
+
 const RELAY_TAG: u8 = 0x52;
 
 const TABLET_TAG: u8 = 0x54;
@@ -21,7 +33,7 @@ pub fn mix(hash: u32, byte: u8) -> u32
     ensures { λ r. ⌜ r ≡ mixed hash byte ⌝ }
 {
     let mixed_in = hash ^ (byte as u32);
-    ((mixed_in as u64) * 16777619 % 4294967296) as u32
+    ((mixed_in as u64) * 16777619 % NUMBERS) as u32
 }
 
 // FNV-1a over the bytes of a slice.

@@ -10,6 +10,7 @@ use native.Mathlib.Omega.{arith}
 use borrow.Author.Tests.{eqb-true, eq-eqb, ne-eqb, lt-ltb, le-leb}
 use lib.Dec.{eqb}
 use lib.ListN.{length}
+use Rattle.ring.specs.Most.{mostRelays, mostTablets}
 use Rattle.ring.specs.Scheme.{known, positions}
 use Rattle.ring.proofs.Tests.{split, true-false, and-left, and-right}
 use Rattle.rule.specs.declared.Refusal.{Refusal}
@@ -20,7 +21,7 @@ use Rattle.rule.specs.Refusals.{isDone, firstBar}
 use Rattle.rule.specs.Stability.{Rising}
 use Rattle.rule.specs.Facts.{Right}
 use Rattle.rule.proofs.Right as Right
-use Rattle.lent.specs.Table.{mostRelays, relayPlaces, relayNumber, relayLimit, relayWhole, mostTablets, tabletPlaces, tabletNumber, tabletRelay, tabletWhole}
+use Rattle.lent.specs.Table.{relayPlaces, relayNumber, relayLimit, relayWhole, tabletPlaces, tabletNumber, tabletRelay, tabletWhole}
 use Rattle.lent.specs.Shape.{used, relaysUsed, tabletsUsed, relayFits, tabletFits}
 use Rattle.meaning.specs.Meaning.{relaysIn, tabletsIn, ringOf, fitTables, tablesRight, tablesBars, tablesRefusal}
 use Rattle.meaning.specs.Ascending.{Ascending}

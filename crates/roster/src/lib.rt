@@ -12,11 +12,6 @@ ghost use Rattle.roster.specs.Content.{tablesFit};
 ghost use Rattle.roster.specs.Reading.{refusedReading, after};
 ghost use Rattle.roster.specs.Inner.{earlyRefusal, fullTables, Room, TakenOver};
 
-// The numbers of scratch tables that take any roster: two to a place.
-const RELAY_NUMBERS: usize = 2 * lent::MOST_RELAYS;
-
-const TABLET_NUMBERS: usize = 2 * lent::MOST_TABLETS;
-
 // A reply, and the roster's scheme: 0 when refused.
 pub struct Reading {
     pub reply: rule::Reply,
@@ -177,8 +172,8 @@ pub fn read(bytes: &[u8], relays: &mut [u32], tablets: &mut [u32]) -> Reading
     if !done {
         return refused(bar);
     }
-    let mut own_relays = [0u32; RELAY_NUMBERS];
-    let mut own_tablets = [0u32; TABLET_NUMBERS];
+    let mut own_relays = [0u32; lent::RELAY_NUMBERS];
+    let mut own_tablets = [0u32; lent::TABLET_NUMBERS];
     let relays_end = 2 * n;
     let tablets_end = 2 * m;
     let full = take_over(

@@ -13,7 +13,7 @@ use native.Mathlib.Nat.{not-suc-le-zero}
 use native.Mathlib.Omega.{arith}
 use borrow.Author.Count.{below-more}
 use lib.ListN.{length, getD, set, length-set}
-use Rattle.lent.specs.Table.{mostRelays}
+use Rattle.ring.specs.Most.{mostRelays}
 use Rattle.lent.proofs.Loops.{eq-or-ne, stored}
 use Rattle.row.specs.Row.{slotRoom, Ahead, both, turn, past, Leads, Row}
 

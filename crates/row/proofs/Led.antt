@@ -8,8 +8,8 @@ use Prim.Native.Nat.{ℕ, _+_, _-_, _*_, _%_, _^_, _≤_, _<_}
 use native.Mathlib.Decide.{decLt}
 use native.Mathlib.Omega.{arith}
 use lib.ListN.{getD}
+use Rattle.ring.specs.Most.{mostRelays}
 use Rattle.ring.specs.Clockwise.{clockwise}
-use Rattle.lent.specs.Table.{mostRelays}
 use Rattle.lent.specs.Placing.{nobody, keyFrom, openKey, leastKey, firstWithRoom}
 use Rattle.lent.proofs.Nearest.{least-low, least-high, least-top, key-open, key-shut}
 use Rattle.order.specs.Keys.{ringKey, slotRelay, Ordered}

@@ -13,7 +13,7 @@ use borrow.Author.Tests.{eq-eqb, ne-eqb}
 use lib.Dec.{eqb}
 use lib.ListN.{length, getD, set, length-set}
 use lib.Seq.{getD-set-other}
-use Rattle.lent.specs.Table.{mostRelays}
+use Rattle.ring.specs.Most.{mostRelays}
 use Rattle.lent.specs.Placing.{roomLess}
 use Rattle.lent.proofs.Loops.{eq-or-ne, stored}
 use Rattle.lent.proofs.Room.{less-here, less-other, less-open, less-keeps}

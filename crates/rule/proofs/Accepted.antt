@@ -14,6 +14,7 @@ use native.Mathlib.Omega.{arith}
 use borrow.Author.Tests.{ltb-false, eqb-false, le-leb, not-false}
 use lib.Dec.{eqb, ltb, leb}
 use lib.ListN.{length}
+use Rattle.ring.specs.Most.{mostLimit}
 use Rattle.ring.specs.Scheme.{Positions}
 use Rattle.ring.specs.Clockwise.{key}
 use Rattle.ring.proofs.Tests.{split, and-left, and-right, true-false}
@@ -22,7 +23,7 @@ use Rattle.rule.specs.declared.Refusal.the-variants.{SchemeUnknown, Tabl
 use Rattle.rule.specs.declared.Call.{Call}
 use Rattle.rule.specs.declared.Call.the-variants.{Add, Remove, Set, Enrol, Withdraw, Find}
 use Rattle.rule.specs.Entry.{Entry, numbers, has, insert, delete, put, total}
-use Rattle.rule.specs.Rule.{Ring, limitsFit, mostLimit, right}
+use Rattle.rule.specs.Rule.{Ring, limitsFit, right}
 use Rattle.rule.specs.Refusals.{isDone, Bar, bar, firstBar}
 use Rattle.rule.specs.Calls.{Lent, subject, edited, orNobody, after, moves, wrongNumbers, refusal, accepted, declined, outcome}
 use Rattle.rule.specs.Rooms.{fill}

@@ -3,9 +3,9 @@ use mathlib.Core.Bool.{_||_, cond}
 use mathlib.Core.List.{List, [], _∷_}
 use Prim.Native.Nat.{ℕ, _+_, _-_, _*_, _/_, min}
 use lib.Dec.{eqb, ltb}
+use Rattle.ring.specs.Most.{mostRelays, mostTablets, mostLimit}
 use Rattle.rule.specs.declared.Refusal.{Refusal}
 use Rattle.rule.specs.declared.Refusal.the-variants.{NumberZero, TooLarge}
-use Rattle.rule.specs.Rule.{mostLimit}
 use Rattle.rule.specs.Refusals.{isDone, Bar, bar, firstBar}
 
 pub record Balanced : Type 0 where
@@ -16,7 +16,7 @@ pub record Balanced : Type 0 where
 abbrev pub balanceBars : ℕ → ℕ → ℕ → ℕ → List Bar
 balanceBars p q tablets relays =
     bar (eqb p 0 || (eqb q 0 || eqb relays 0)) NumberZero
-    ∷ bar (ltb 1000 p || (ltb 1000 q || (ltb p q || (ltb 4096 tablets || ltb 256 relays)))) TooLarge
+    ∷ bar (ltb 1000 p || (ltb 1000 q || (ltb p q || (ltb mostTablets tablets || ltb mostRelays relays)))) TooLarge
     ∷ []
 
 -- by rising number

@@ -6,6 +6,7 @@ use mathlib.Core.Option.{Option, none, some}
 use Prim.Native.Nat.{ℕ}
 use lib.Dec.{eqb, ltb, leb}
 use lib.ListN.{length}
+use Rattle.ring.specs.Most.{mostLimit}
 use Rattle.ring.specs.Scheme.{Positions}
 use Rattle.rule.specs.declared.Refusal.{Refusal}
 use Rattle.rule.specs.declared.Refusal.the-variants.{Done, SchemeUnknown, TablesNotRight, NumberZero, TooLarge, NotThere, ThereAlready, NoUnusedPlace, LimitsTooSmall, MoveListTooShort}
@@ -15,7 +16,7 @@ use Rattle.rule.specs.declared.Reply.{Reply}
 use Rattle.rule.specs.declared.Move.{Move}
 use Rattle.rule.specs.Entry.{Entry, numbers, has, besideOf, insert, delete, put, total, count, upTo}
 use Rattle.rule.specs.Order.{order}
-use Rattle.rule.specs.Rule.{Ring, full, hasRoom, placement, right, mostLimit}
+use Rattle.rule.specs.Rule.{Ring, full, hasRoom, placement, right}
 use Rattle.rule.specs.Refusals.{isDone, replied, bareReply, Bar, bar, firstBar}
 
 -- ---- what is lent, besides the entries

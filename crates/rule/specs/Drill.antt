@@ -4,6 +4,7 @@ use mathlib.Core.Bool.{true}
 use mathlib.Core.List.{List, [], _∷_}
 use Prim.Native.Nat.{ℕ}
 use lib.ListN.{length}
+use Rattle.ring.specs.Most.{mostRelays, mostTablets}
 use Rattle.ring.specs.Scheme.{Positions}
 use Rattle.rule.specs.declared.Refusal.{Refusal}
 use Rattle.rule.specs.declared.Refusal.the-variants.{Done, ThereAlready, LimitsTooSmall}
@@ -43,7 +44,7 @@ unfoldable pub drillRing : Ring
 drillRing = record { relays = entry 10 1 ∷ entry 20 2 ∷ entry 30 1 ∷ []; tablets = [] }
 
 unfoldable pub drillLent : Lent
-drillLent = record { known = true; fit = true; relayPlaces = 256; tabletPlaces = 4096; movePlaces = 4096 }
+drillLent = record { known = true; fit = true; relayPlaces = mostRelays; tabletPlaces = mostTablets; movePlaces = mostTablets }
 
 unfoldable pub drill : List Case
 drill =

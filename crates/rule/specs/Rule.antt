@@ -5,6 +5,7 @@ use mathlib.Core.List.{List, [], _∷_, _++_}
 use mathlib.Core.Option.{Option, none, some}
 use Prim.Native.Nat.{ℕ}
 use lib.Dec.{eqb, ltb, leb}
+use Rattle.ring.specs.Most.{topNumber, mostLimit}
 use Rattle.ring.specs.Scheme.{Positions}
 use Rattle.rule.specs.Entry.{Entry, entry, numbers, load, first}
 use Rattle.rule.specs.Order.{order}
@@ -41,10 +42,7 @@ pub record Ring : Type 0 where
 -- 32-bit numbers that rise strictly, all above low
 unfoldable pub rising : ℕ → List Entry → Bool
 rising low [] = true
-rising low (e ∷ es) = ltb low (e .number) && (leb (e .number) 4294967295 && rising (e .number) es)
-
-abbrev pub mostLimit : ℕ
-mostLimit = 4096
+rising low (e ∷ es) = ltb low (e .number) && (leb (e .number) topNumber && rising (e .number) es)
 
 unfoldable pub limitsFit : List Entry → Bool
 limitsFit [] = true

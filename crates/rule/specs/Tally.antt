@@ -2,6 +2,7 @@
 use mathlib.Core.Bool.{true, false}
 use mathlib.Core.List.{List, [], _∷_}
 use Prim.Native.Nat.{ℕ, _+_, _^_, _<_, min}
+use Rattle.ring.specs.Most.{topNumber}
 use Rattle.ring.specs.Scheme.{Positions}
 use Rattle.rule.specs.declared.Call.{Call}
 use Rattle.rule.specs.declared.Call.the-variants.{Add, Remove, Set, Enrol, Withdraw, Find}
@@ -13,7 +14,7 @@ use Rattle.rule.specs.Calls.{Lent, subject, refusal, Outcome, outcome}
 
 -- each count stops here
 abbrev pub mostCounted : ℕ
-mostCounted = 4294967295
+mostCounted = topNumber
 
 unfoldable pub more : ℕ → ℕ → ℕ
 more count by = min (count + by) mostCounted

@@ -2,9 +2,6 @@
 ghost use mathlib.Core.Path.{_≡_};
 ghost use Rattle.rule.specs.Refusals.{numberOf, isDone, bareReply};
 
-// The greatest limit that a relay may have ("The lent tables").
-pub const MOST_LIMIT: u32 = 4096;
-
 // Why a call did nothing ("Replies"), or that it is done.
 pub enum Refusal {
     Done,

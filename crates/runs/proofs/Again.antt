@@ -10,11 +10,12 @@ use borrow.Author.Tests.{eqb-true, lt-ltb}
 use lib.Dec.{eqb, leb}
 use lib.ListN.{length, getD, replicate, length-append, length-replicate, getD-replicate, List·getD-append}
 use lib.Seq.{getD-append-add}
+use Rattle.ring.specs.Most.{mostRelays, mostTablets}
 use Rattle.ring.proofs.Tests.{and-left}
 use Rattle.rule.specs.Entry.{Entry}
 use Rattle.rule.specs.Rule.{Ring}
 use Rattle.rule.specs.Facts.{Table}
-use Rattle.lent.specs.Table.{mostRelays, relayPlaces, relayNumber, relayLimit, relayWhole, mostTablets, tabletPlaces, tabletNumber, tabletRelay, tabletWhole}
+use Rattle.lent.specs.Table.{relayPlaces, relayNumber, relayLimit, relayWhole, tabletPlaces, tabletNumber, tabletRelay, tabletWhole}
 use Rattle.lent.specs.Shape.{used, relaysUsed, tabletsUsed, relayFits, tabletFits}
 use Rattle.meaning.specs.Meaning.{places, restUnused, ringOf, fitTables}
 use Rattle.meaning.specs.Ascending.{Ascending}

@@ -9,11 +9,12 @@ use native.Mathlib.Omega.{arith}
 use borrow.Author.Tests.{leb-false}
 use lib.Dec.{eqb, ltb, leb}
 use lib.ListN.{length}
+use Rattle.ring.specs.Most.{mostLimit}
 use Rattle.rule.specs.declared.Refusal.the-variants.{NumberZero, TooLarge, ThereAlready, NoUnusedPlace}
 use Rattle.rule.specs.declared.Call.{Call}
 use Rattle.rule.specs.declared.Call.the-variants.{Add, Remove, Set, Enrol, Withdraw, Find}
 use Rattle.rule.specs.Entry.{has, put}
-use Rattle.rule.specs.Rule.{Ring, mostLimit}
+use Rattle.rule.specs.Rule.{Ring}
 use Rattle.rule.specs.Refusals.{isDone, Bar, bar, firstBar}
 use Rattle.rule.specs.Calls.{edited, wrongNumbers}
 use Rattle.rule.proofs.Accepted.{bar-passed}

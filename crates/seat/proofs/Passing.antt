@@ -13,6 +13,7 @@ use native.Mathlib.Omega.{arith}
 use borrow.Author.Tests.{ltb-true, ltb-false, eq-eqb, ne-eqb, le-leb, lt-leb}
 use lib.Dec.{eqb, ltb}
 use lib.ListN.{length, getD}
+use Rattle.ring.specs.Most.{mostRelays}
 use Rattle.ring.specs.Scheme.{positions}
 use Rattle.ring.proofs.Tests.{split}
 use Rattle.rule.specs.Entry.{Entry, entry, upTo}
@@ -20,7 +21,7 @@ use Rattle.rule.specs.Order.{order}
 use Rattle.rule.specs.Rule.{Ring}
 use Rattle.rule.specs.Calls.{aheadOf}
 use Rattle.rule.specs.Walks.{hadPassed}
-use Rattle.lent.specs.Table.{mostRelays, relayNumber, tabletNumber, tabletRelay}
+use Rattle.lent.specs.Table.{relayNumber, tabletNumber, tabletRelay}
 use Rattle.order.specs.Keys.{slotRelay}
 use Rattle.survey.specs.declared.Survey.{Survey}
 use Rattle.survey.specs.Seats.{HomeByte}

@@ -4,9 +4,10 @@ use mathlib.Core.Bool.{true}
 use mathlib.Core.Path.{_≡_}
 use Prim.Native.Nat.{ℕ, _≤_, _<_}
 use lib.ListN.{getD}
+use Rattle.ring.specs.Most.{mostRelays}
 use Rattle.rule.specs.Entry.{has}
 use Rattle.rule.specs.Refusals.{isDone}
-use Rattle.lent.specs.Table.{mostRelays, tabletNumber, tabletRelay, TabletsIn}
+use Rattle.lent.specs.Table.{tabletNumber, tabletRelay, TabletsIn}
 use Rattle.meaning.specs.Meaning.{tabletsIn}
 use Rattle.meaning.specs.Ascending.{Ascending}
 use Rattle.slots.specs.Slots.{stepsTo}

@@ -2,7 +2,7 @@
 // order, which are the steps from its home to its relay's slot.
 ghost use mathlib.Core.Path.{_≡_};
 ghost use Prim.Native.Nat.{_≤_};
-ghost use Rattle.lent.specs.Table.{mostRelays};
+ghost use Rattle.ring.specs.Most.{mostRelays};
 ghost use Rattle.slots.specs.Slots.{stepsTo};
 ghost use Rattle.seat.specs.Seat.{Slotted, SeatOf};
 
@@ -29,8 +29,8 @@ pub fn seat_of<'a>(
     tablets: &[u32],
     n: usize,
     m: usize,
-    home: &'a [u8; 4096],
-    slot: &'a [u8; 4096],
+    home: &'a [u8; ring::MOST_TABLETS],
+    slot: &'a [u8; ring::MOST_TABLETS],
     t: ring::TabletNumber,
 ) -> Seat
     requires { ⌜ Slotted (now tablets) n m (now home) (now slot) ⌝ }

@@ -8,6 +8,7 @@ use Prim.Native.Nat.{ℕ, _^_, _≤_, _<_}
 use native.Mathlib.Omega.{arith}
 use borrow.Author.Tests.{ltb-true, ltb-false, lt-ltb, le-ltb, eqb-true, eqb-false}
 use lib.Dec.{ltb, eqb}
+use Rattle.ring.specs.Most.{mostRelays}
 use Rattle.ring.specs.Scheme.{Positions}
 use Rattle.ring.specs.Clockwise.{sooner, key}
 use Rattle.ring.proofs.Tests.{split}
@@ -17,7 +18,7 @@ use Rattle.rule.specs.Order.{order}
 use Rattle.rule.specs.Facts.{Among, Small}
 use Rattle.rule.proofs.Orders.{order-in, in-order, order-sorted}
 use Rattle.rule.proofs.Turning.{distinct-order, distinct-rising}
-use Rattle.lent.specs.Table.{mostRelays, relayNumber, relayLimit}
+use Rattle.lent.specs.Table.{relayNumber, relayLimit}
 use Rattle.lent.specs.Placing.{relayPositions, keyFrom}
 use Rattle.order.specs.Keys.{slotRelay, Ordered}
 use Rattle.home.specs.Home.{keyAt, Home}

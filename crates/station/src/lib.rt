@@ -3,6 +3,7 @@
 ghost use mathlib.Core.Path.{_≡_};
 ghost use Prim.Native.Nat.{_*_, _≤_};
 ghost use lib.ListN.{length};
+ghost use Rattle.ring.specs.Most.{mostTablets};
 ghost use Rattle.rule.specs.Tally.{counted};
 ghost use Rattle.promise.specs.Promise.{Answers};
 ghost use Rattle.look.specs.Promise.{lists};
@@ -17,8 +18,8 @@ pub fn count_into(t: &mut rule::Tally, c: rule::Call, r: rule::Reply)
 }
 
 // The first moves of the numbers become the first records of the list, and the records behind them stay.
-fn hand_out(list: &mut [rule::Move], numbers: &[u32; 12288], count: usize)
-    requires { ⌜ (count ≤ length (now list)) × (3 * count ≤ 12288) ⌝ }
+fn hand_out(list: &mut [rule::Move], numbers: &[u32; lent::MOVE_NUMBERS], count: usize)
+    requires { ⌜ (count ≤ length (now list)) × (3 * count ≤ 3 * mostTablets) ⌝ }
     ensures { λ _. ⌜ now (list .exit) ≡ handed (now (list .entry)) (now (numbers .entry)) count ⌝ }
 {
     let mut i = 0;
@@ -40,7 +41,7 @@ pub fn call(
     ensures { λ r. ⌜ Answers (attended scheme (now (relays .entry)) (now (tablets .entry)) (now (list .entry)) (now (t .entry)) c)
         r (lists (now (relays .exit)) (now (tablets .exit)) (now (list .exit)), now (t .exit)) ⌝ }
 {
-    let mut numbers = [0u32; 12288];
+    let mut numbers = [0u32; lent::MOVE_NUMBERS];
     let r = records::work_on(scheme, relays, tablets, &mut numbers, list.len(), c);
     hand_out(list, &numbers, records::made(r));
     count_into(t, c, r);

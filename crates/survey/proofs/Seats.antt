@@ -13,8 +13,9 @@ use native.Mathlib.Omega.{arith}
 use borrow.Author.Tests.{lt-ltb, le-ltb}
 use lib.Dec.{ltb, eqb}
 use lib.ListN.{length, getD, set, replicate, length-set}
+use Rattle.ring.specs.Most.{mostRelays, mostTablets}
 use Rattle.ring.specs.Scheme.{Positions}
-use Rattle.lent.specs.Table.{mostRelays, relayNumber, mostTablets, tabletNumber, tabletRelay}
+use Rattle.lent.specs.Table.{relayNumber, tabletNumber, tabletRelay}
 use Rattle.lent.specs.Placing.{relayPositions, relayLimits, firstWithRoom, roomLess, roomAfter, relayFor, placedAt}
 use Rattle.lent.proofs.Loops.{stored}
 use Rattle.lent.proofs.Room.{room-more, room-size, room-beyond}

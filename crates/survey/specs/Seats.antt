@@ -4,8 +4,9 @@ use mathlib.Core.List.{List}
 use mathlib.Core.Path.{_≡_}
 use Prim.Native.Nat.{ℕ, zero, suc, _%_, _<_}
 use lib.ListN.{length, getD, set, replicate}
+use Rattle.ring.specs.Most.{mostRelays, mostTablets}
 use Rattle.ring.specs.Scheme.{Positions}
-use Rattle.lent.specs.Table.{mostRelays, mostTablets, tabletNumber}
+use Rattle.lent.specs.Table.{tabletNumber}
 use Rattle.lent.specs.Placing.{relayPositions, roomAfter, relayFor}
 use Rattle.order.specs.Keys.{slotRelay, Ordered}
 use Rattle.home.specs.Home.{keyAt, Home}

@@ -5,8 +5,9 @@ ghost use mathlib.Core.Bool.{true, _&&_};
 ghost use Prim.Native.Nat.{_<_};
 ghost use lib.Dec.{eqb, ltb};
 ghost use lib.ListN.{getD};
+ghost use Rattle.ring.specs.Most.{mostRelays};
 ghost use Rattle.ring.specs.Scheme.{positions};
-ghost use Rattle.lent.specs.Table.{mostRelays, relayPlaces, relayNumber, RelaysIn, tabletPlaces, tabletRelay, TabletsIn};
+ghost use Rattle.lent.specs.Table.{relayPlaces, relayNumber, RelaysIn, tabletPlaces, tabletRelay, TabletsIn};
 ghost use Rattle.lent.specs.Placing.{placed};
 ghost use Rattle.survey.specs.Seats.{Surveyed};
 
@@ -14,16 +15,22 @@ ghost use Rattle.survey.specs.Seats.{Surveyed};
 // the place of its greatest tablet, and for each tablet its home and its relay's slot.
 pub struct Survey {
     pub right: bool,
-    pub keys: [u64; 256],
-    pub room: [u32; 256],
-    pub next: [u8; 256],
-    pub last: [u16; 256],
-    pub home: [u8; 4096],
-    pub slot: [u8; 4096],
+    pub keys: [u64; ring::MOST_RELAYS],
+    pub room: [u32; ring::MOST_RELAYS],
+    pub next: [u8; ring::MOST_RELAYS],
+    pub last: [u16; ring::MOST_RELAYS],
+    pub home: [u8; ring::MOST_TABLETS],
+    pub slot: [u8; ring::MOST_TABLETS],
 }
 
 // Has the relay at place i room, and is it written beside tablet j?
-fn stands_beside(relays: &[u32], tablets: &[u32], room: &[u32; 256], i: usize, j: usize) -> bool
+fn stands_beside(
+    relays: &[u32],
+    tablets: &[u32],
+    room: &[u32; ring::MOST_RELAYS],
+    i: usize,
+    j: usize,
+) -> bool
     requires { ⌜ (i < mostRelays) × (0 < getD (now room) i 0 → i < relayPlaces (now relays)) × (j < tabletPlaces (now tablets)) ⌝ }
     ensures { λ r. ⌜ r ≡ (ltb 0 (getD (now (room .entry)) i 0) && eqb (relayNumber (now (relays .entry)) i) (tabletRelay (now (tablets .entry)) j)) ⌝ }
 {
@@ -45,9 +52,9 @@ pub fn look_over(scheme: u32, relays: &[u32], tablets: &[u32], n: usize, m: usiz
     let start = home::arc_starts(&keys, n, in_turn);
     let mut room = placing::relay_limits(relays, n);
     let mut next = row::first_row(&keys, &room, n);
-    let mut last = [0u16; 256];
-    let mut home = [0u8; 4096];
-    let mut slot = [0u8; 4096];
+    let mut last = [0u16; ring::MOST_RELAYS];
+    let mut home = [0u8; ring::MOST_TABLETS];
+    let mut slot = [0u8; ring::MOST_TABLETS];
     let mut right = true;
     let mut from = ring::Position(0);
     let mut h: usize = 0;
@@ -62,7 +69,7 @@ pub fn look_over(scheme: u32, relays: &[u32], tablets: &[u32], n: usize, m: usiz
         if !right {
             break;
         }
-        home[j] = (h % 256) as u8;
+        home[j] = (h % ring::MOST_RELAYS) as u8;
         slot[j] = k as u8;
         row::take(&keys, &mut room, &mut next, n, k);
         j += 1;

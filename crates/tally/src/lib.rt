@@ -3,7 +3,7 @@ ghost use mathlib.Core.Path.{_≡_};
 ghost use Rattle.rule.specs.Tally.{more, enrolments, withdrawals, counted};
 ghost use Rattle.tally.specs.Counted.{tallied};
 
-const MOST_COUNTED: u32 = 4294967295;
+const MOST_COUNTED: u32 = ring::TOP_NUMBER;
 
 // A count with so many more; it stops at the most that a tally holds.
 fn more(count: u32, by: u32) -> u32

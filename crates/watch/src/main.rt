@@ -11,18 +11,11 @@ const STDIN: i32 = 0;
 
 const STDOUT: i32 = 1;
 
-// Two numbers to a place, for 256 relays and for 4,096 tablets; three to a move, for 4,096 moves.
-const RELAYS: usize = 512;
-
-const TABLETS: usize = 8192;
-
-const MOVES: usize = 12288;
-
 // A line is answered as its first 24 bytes are, so no more are kept (`answered-first` in `input`).
 const KEPT: usize = 24;
 
 // The longest answer: 44 bytes, and 35 for each of 4,096 moves (`takes-whole` in `input`).
-const ANSWER: usize = 143404;
+const ANSWER: usize = 44 + 35 * ring::MOST_TABLETS;
 
 // What a read brought: how many bytes are to be taken, and whether no more will come.
 struct Brought {
@@ -115,9 +108,9 @@ fn take_chunk(
 
 // A proved loop has to end, and nothing says that the input does. So the turns are counted down.
 fn main() {
-    let mut relays = [0u32; RELAYS];
-    let mut tablets = [0u32; TABLETS];
-    let mut moves = [0u32; MOVES];
+    let mut relays = [0u32; lent::RELAY_NUMBERS];
+    let mut tablets = [0u32; lent::TABLET_NUMBERS];
+    let mut moves = [0u32; lent::MOVE_NUMBERS];
     let mut answer = [0u8; ANSWER];
     let mut line = [0u8; KEPT];
     let mut chunk = io::buffer();

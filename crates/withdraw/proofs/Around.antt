@@ -5,8 +5,8 @@ use Prim.Native.Nat.{ℕ, _+_, _-_, _≤_, _<_}
 use native.Mathlib.Omega.{arith}
 use borrow.Author.Tests.{ltb-true, ltb-false, lt-ltb, le-leb, lt-leb}
 use lib.Dec.{ltb}
+use Rattle.ring.specs.Most.{mostRelays}
 use Rattle.ring.proofs.Tests.{split}
-use Rattle.lent.specs.Table.{mostRelays}
 use Rattle.slots.specs.Slots.{stepsTo}
 use Rattle.holes.specs.Holes.{around}
 

@@ -3,8 +3,8 @@
 use mathlib.Core.Path.{_≡_, refl}
 use Prim.Native.Nat.{_*_, _-_, _≤_}
 use native.Mathlib.Omega.{arith}
+use Rattle.ring.specs.Most.{mostLimit}
 use Rattle.rule.specs.Entry.{total}
-use Rattle.rule.specs.Rule.{mostLimit}
 use Rattle.lent.proofs.Loops.{at-end}
 use Rattle.lent.specs.Table.{relayNumber, relayLimit}
 use Rattle.meaning.specs.Meaning.{places, relaysIn}

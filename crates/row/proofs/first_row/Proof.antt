@@ -3,7 +3,7 @@
 use mathlib.Core.Path.{refl}
 use Prim.Native.Nat.{_≤_}
 use lib.ListN.{replicate}
-use Rattle.lent.specs.Table.{mostRelays}
+use Rattle.ring.specs.Most.{mostRelays}
 use Rattle.row.specs.Row.{Leads, Row}
 use Rattle.row.proofs.Leading.{leads-from, row-start, row-more, row-end}
 use native.Mathlib.Omega.{arith}

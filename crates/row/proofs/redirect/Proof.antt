@@ -4,7 +4,7 @@ use mathlib.Core.Path.{_≡_, ap, _∙_}
 use Prim.Native.Nat.{ℕ, _+_, _-_, _%_, _≤_}
 use lib.Dec.{eqb}
 use lib.ListN.{getD}
-use Rattle.lent.specs.Table.{mostRelays}
+use Rattle.ring.specs.Most.{mostRelays}
 use Rattle.row.specs.Row.{Redirected}
 use Rattle.row.proofs.Shutting.{redirected-none, redirected-more, redirected-end}
 use native.Mathlib.Omega.{arith}

@@ -8,9 +8,10 @@ use native.Mathlib.Omega.{arith}
 use borrow.Author.Tests.{not-true, not-false, ltb-true}
 use lib.Dec.{ltb}
 use lib.ListN.{getD}
+use Rattle.ring.specs.Most.{mostTablets}
 use Rattle.ring.proofs.Tests.{and-left}
 use Rattle.ring.specs.Scheme.{positions}
-use Rattle.lent.specs.Table.{mostTablets, tabletNumber}
+use Rattle.lent.specs.Table.{tabletNumber}
 use Rattle.lent.specs.Shape.{all}
 use Rattle.lent.specs.Placing.{placedAt, placed}
 use Rattle.lent.proofs.Loops.{at-end, all-more, all-false}

@@ -2,8 +2,8 @@
 -- before place i. Assumes nothing.
 use mathlib.Core.Path.{_≡_, refl}
 use Prim.Native.Nat.{_-_, _≤_}
+use Rattle.ring.specs.Most.{mostLimit}
 use Rattle.lent.specs.Table.{relayNumber, relayLimit}
-use Rattle.rule.specs.Rule.{mostLimit}
 use Rattle.lent.specs.Shape.{all, previous, entryAt}
 use Rattle.lent.proofs.Loops.{at-end}
 use Rattle.lent.proofs.Shaped.{previous-more, entry-more}

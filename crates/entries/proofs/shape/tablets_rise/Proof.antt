@@ -2,8 +2,9 @@
 -- before place j. Assumes nothing.
 use mathlib.Core.Path.{_≡_, refl}
 use Prim.Native.Nat.{_-_, _≤_}
+use Rattle.ring.specs.Most.{topNumber}
 use Rattle.lent.specs.Table.{tabletNumber, tabletRelay}
-use Rattle.lent.specs.Shape.{all, previous, entryAt, topNumber}
+use Rattle.lent.specs.Shape.{all, previous, entryAt}
 use Rattle.lent.proofs.Loops.{at-end}
 use Rattle.lent.proofs.Shaped.{previous-more, entry-more}
 use native.Mathlib.Omega.{arith}
