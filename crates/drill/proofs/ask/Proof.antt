@@ -95,9 +95,9 @@ abbrev Parts : Reply → Tally → List Move → Told → Type 0
 Parts r t l y = (y .reply ≡ r) × ((y .tally ≡ t) × (y .list ≡ l))
 
 -- the promise, at the blank list and at what was gathered
-told : {rs ts rs′ ts′ : List ℕ} {xs l : List Move} {t t′ : Tally} {c : Call} {r : Reply} {y : Told} → xs ≡ blanks → Attends rs ts xs t c r rs′ ts′ l t′ → Parts r t′ l y
+told : (rs ts : List ℕ) (t : Tally) (c : Call) {rs′ ts′ : List ℕ} {xs l : List Move} {t′ : Tally} {r : Reply} {y : Told} → xs ≡ blanks → Attends rs ts xs t c r rs′ ts′ l t′ → Parts r t′ l y
     → Attends rs ts blanks t c (y .reply) rs′ ts′ (y .list) (y .tally)
-told {rs = rs} {ts = ts} {rs′ = rs′} {ts′ = ts′} {l = l} {t = t} {t′ = t′} {c = c} {r = r} {y = y} e h p =
+told rs ts t c {rs′ = rs′} {ts′ = ts′} {l = l} {t′ = t′} {r = r} {y = y} e h p =
     subst (λ (z : Reply). Attends rs ts blanks t c z rs′ ts′ (y .list) (y .tally)) (sym (p .0))
     (subst (λ (z : Tally). Attends rs ts blanks t c r rs′ ts′ (y .list) z) (sym (p .1 .0))
     (subst (λ (z : List Move). Attends rs ts blanks t c r rs′ ts′ z t′) (sym (p .1 .1)) (subst (λ (z : List Move). Attends rs ts z t c r rs′ ts′ l t′) e h)))
@@ -310,7 +310,7 @@ module _ {M : Type 1} (𝓤 : URA M) (H : Heap 𝓤) (A : Atoms 𝓤) (W : Given
         land ! (from ! (stop !)) (init ! 37 refl (LL.lawful To.the-type To′.the-laws 𝓤 H A W .typed y _ is₄ .0)) $ drop ! $
         returns ! (look ! 36 refl) $ forget ! 0 refl $ forget ! 1 refl $ forget ! 6 refl $ forget ! 8 refl $ forget ! 10 refl $ forget ! 12 refl $ forget ! 14 refl $ forget ! 16 refl $ forget ! 18 refl $ forget ! 20 refl $ forget ! 22 refl $ forget ! 24 refl $ forget ! 28 refl $ forget ! 30 refl $ forget ! 32 refl $ forget ! 34 refl $ forget ! 36 refl $
         move ! (36 ∷ 37 ∷ []) $ free1 ! $ move ! (34 ∷ 35 ∷ []) $ free1 ! $ move ! (32 ∷ 33 ∷ []) $ free1 ! $ move ! (30 ∷ 31 ∷ []) $ free1 ! $ move ! (28 ∷ 29 ∷ []) $ free1 ! $ move ! (1 ∷ 27 ∷ []) $ free1 ! $ move ! (0 ∷ 25 ∷ []) $ free1 ! $ move ! (22 ∷ 23 ∷ []) $ free1 ! $ move ! (20 ∷ 21 ∷ []) $ free1 ! $ move ! (18 ∷ 19 ∷ []) $ free1 ! $ move ! (16 ∷ 17 ∷ []) $ free1 ! $ move ! (14 ∷ 15 ∷ []) $ free1 ! $ move ! (12 ∷ 13 ∷ []) $ free1 ! $ move ! (10 ∷ 11 ∷ []) $ free1 ! $ move ! (8 ∷ 9 ∷ []) $ free1 ! $ move ! (6 ∷ 7 ∷ []) $ free1 ! $ move ! (4 ∷ 5 ∷ []) $ free1 ! $ free0 ! $
-        by ! (exits y w₂ is₄ (ws .1 .0) (ws .1 .1 .0) n₀ n₁ (told e₀ e₁ e₂)))))))))))))))))))))))))))))))))))))))))
+        by ! (exits y w₂ is₄ (ws .1 .0) (ws .1 .1 .0) n₀ n₁ (told (xr .now) (xb .now) t c e₀ e₁ e₂)))))))))))))))))))))))))))))))))))))))))
 
 module _ {M : Type 1} (𝓤 : URA M) (H : Heap 𝓤) (A : Atoms 𝓤) (W : Given 𝓤 H A) (mem′ : Memory → SProp 𝓤) (run : Routine → Fun 𝓤) where
   walks : (C : Calls 𝓤 H) (Λ : Loops 𝓤 H) → FmC 𝓤 H (W .laws) C → Triple 𝓤 (C #drill·blank) (Blank 𝓤 H A mem′ run) → Triple 𝓤 (C #station·call) (Station 𝓤 H A mem′ run) → Triple 𝓤 (C #drill·gathered) (Gathered 𝓤 H A mem′ run)
