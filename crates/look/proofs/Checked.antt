@@ -1,4 +1,9 @@
--- The ways out of a look: which refusal each means, and what is known past them all. Assumes nothing.
+-- The ways out of a look: which refusal each means, and what is known past them all.
+--   looked                                          the look, from its first refusal and the check of the placement
+--   unknown-refused, wrong-refused, right-passed    the refusals 1 and 2, and past them
+--   barred-first, passed-first                      what is refused before the placement is looked at
+--   words-of                                        a slice of u32 has 32-bit numbers
+-- Assumes nothing.
 use mathlib.Core.Bool.{Bool, true, false, not}
 use mathlib.Core.Path.{_≡_, refl, sym, ap, _∙_}
 use mathlib.Core.List.{List}

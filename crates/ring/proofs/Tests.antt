@@ -1,4 +1,8 @@
--- Tests and what they say, for whoever goes by cases. Assumes nothing.
+-- Tests and what they say, for whoever goes by cases.
+--   split                  by cases, keeping the equation
+--   true-false             true is not false
+--   and-left, and-right    a test of two parts
+-- Assumes nothing.
 use mathlib.Core.Bool.{Bool, true, false, _&&_}
 use mathlib.Core.Path.{_≡_, refl}
 use Prim.Native.Nat.{ℕ}

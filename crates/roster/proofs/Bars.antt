@@ -1,4 +1,6 @@
 -- The ways out of the tests that come before the content, one law for each.
+--   relays-unfit, tablets-unfit, relays-short, tablets-left    the lent tables
+--   shape-barred, scheme-barred, fit-barred, none-barred       the refusals 10, 1 and 12, and past them
 -- Assumes nothing.
 use mathlib.Core.Bool.{Bool, true, false, not}
 use mathlib.Core.List.{List}

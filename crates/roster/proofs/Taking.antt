@@ -1,4 +1,7 @@
--- The two ways out of taking blocks over from scratch. Assumes nothing.
+-- The two ways out of taking blocks over from scratch.
+--   taken-not    they are no full tables, and nothing is written
+--   taken-all    they are, and stand in what is lent
+-- Assumes nothing.
 use mathlib.Core.Bool.{Bool, true, false, not}
 use mathlib.Core.List.{List}
 use mathlib.Core.Path.{_≡_, refl, sym, _∙_}

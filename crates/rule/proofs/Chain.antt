@@ -1,4 +1,9 @@
 -- One step of an enrolment and of a withdrawal, on placements that are stable but for one tablet.
+--   settle    the walker sits down at a relay with room
+--   evict     it takes the place of the greatest number at a full one
+--   closed    a hole that nobody had passed: nothing is left to do
+--   later     who had passed a hole has a greater number than who left it
+--   refill    the lowest of these takes the hole, and leaves one
 -- Assumes nothing.
 use mathlib.Core.Path.{_≡_, ap}
 use mathlib.Core.List.{List}

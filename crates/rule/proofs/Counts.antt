@@ -1,4 +1,11 @@
 -- Counts and places under an entry put in or taken out.
+--   load-insert, load-delete, length-insert, length-delete    loads, and how many entries there are
+--   lower-insert, lower-delete, lower-load, lower-up          how many at a relay have lower numbers
+--   lower-load-one, lower-between                             and one that has not
+--   sits-insert, insert-sits, sits-delete, delete-sits, sits-deleted    who sits where
+--   count-insert, count-delete, count-length, delete-length   how many meet a test
+--   above-down, above-fewer, above-sits                       how many numbers are above one
+--   at-other, at-not, at-yes, at-le, at-one, sits-above       one entry's part in a count
 -- Assumes nothing.
 use mathlib.Core.Bool.{Bool, _&&_, cond}
 use mathlib.Core.Path.{_≡_, refl, sym, ap, _∙_}

@@ -1,4 +1,8 @@
 -- An enrolment, step by step: the table is always the rule's for everybody but the one who walks.
+--   walk-start     the newcomer walks
+--   walk-evict     a greater number gives way, and walks on
+--   evict-open     which leaves the next walker fewer relays to come to
+--   walk-settle    the walker sits down, and the table is the rule's for all
 -- Assumes nothing.
 use mathlib.Core.Path.{_≡_, refl, ap, _∙_}
 use mathlib.Core.List.{List}

@@ -1,4 +1,6 @@
 -- Where the limits sum to more than the tablets, a walker finds a relay.
+--   fair-exists    one that it may sit down at
+--   held-above     a number below all others has no room
 -- Assumes nothing.
 use mathlib.Core.Path.{_≡_, refl, ap}
 use mathlib.Core.List.{List, [], _∷_}

@@ -1,4 +1,9 @@
 -- Rooms, one by one: what `less`, `choose` and `total` say of `held`.
+--   choose-best                          what is chosen has room, and no relay with room is nearer
+--   held-less                            one place less at one relay
+--   held-here, held-there, held-cases    one entry more
+--   chosen                               the choice, as it is made entry by entry
+--   total-some, total-less               of all relays together
 -- Assumes nothing.
 use mathlib.Core.Bool.{cond}
 use mathlib.Core.Path.{_≡_, refl, sym, ap, _∙_}

@@ -1,4 +1,9 @@
 -- The numbers of a table as a set.
+--   rising-ext                            rising lists with the same numbers are the same
+--   in-sits, sits-in                      a number of the table has a relay beside it, and back
+--   in-insert, insert-in                  an entry put in
+--   in-delete, delete-in                  an entry taken out
+--   rising-low, rising-insert, rising-delete, rising-in, in-rest    numbers that rise
 -- Assumes nothing.
 use mathlib.Core.Path.{_≡_, refl, sym, _∙_}
 use mathlib.Core.List.{List, [], _∷_}

@@ -1,4 +1,9 @@
 -- The rule without its history: a placement is the rule's exactly where every tablet has the nearest relay that the lower ones leave it.
+--   fill-stable              a stable placement is the rule's
+--   stable-fill              the rule's is stable
+--   numbers-fill             it is of the tablets that were to be placed
+--   head-fair, tail-fair     the first tablet, and the others in the room that it leaves
+--   best-one                 there is one nearest relay with room
 -- Assumes nothing.
 use mathlib.Core.Bool.{cond}
 use mathlib.Core.Path.{_≡_, refl, ap}
