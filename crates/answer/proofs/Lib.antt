@@ -1,3 +1,3 @@
-pub mod Spelling
+pub mod Digits
 pub mod Room
 pub mod Examples

@@ -15,7 +15,7 @@ use Rattle.rule.specs.declared.Refusal.{Refusal}
 use Rattle.rule.specs.declared.Reply.{Reply}
 use Rattle.rule.specs.Refusals.{isDone, bareReply, firstBar}
 use Rattle.rule.specs.Balance.{balanceRefusal, balancedLimit, balance}
-use Rattle.balance.specs.Balancing.{InRange, Balances}
+use Rattle.balance.specs.Promise.{InRange, Balances}
 
 module _ {p q tablets relays : ℕ} (r : InRange p q tablets relays) where
   pub share-small : p * tablets ≤ 4096000

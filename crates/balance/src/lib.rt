@@ -5,7 +5,7 @@ ghost use Prim.Native.Nat.{_≤_, _<_};
 ghost use lib.Dec.{eqb, ltb};
 ghost use Rattle.ring.specs.Most.{mostRelays, mostTablets};
 ghost use Rattle.rule.specs.Balance.{balanceRefusal, roundedUp, balancedLimit, balance};
-ghost use Rattle.balance.specs.Balancing.{InRange, Balances};
+ghost use Rattle.balance.specs.Promise.{InRange, Balances};
 
 const MOST_SHARE: u32 = 1000;
 

@@ -6,7 +6,7 @@ use Rattle.rule.specs.declared.Call.{Call}
 use Rattle.rule.specs.declared.Reply.{Reply}
 use Rattle.promise.specs.Promise.{After, withTally}
 use Rattle.tally.specs.Counted.{tallied}
-use Rattle.look.specs.Promise.{Lists, after}
+use Rattle.call_start.specs.Promise.{Lists, after}
 
 unfoldable pub countedAfter : ℕ → List ℕ → List ℕ → List ℕ → List ℕ → Call → After Reply (Lists ℕ × List ℕ)
 countedAfter scheme rs ts ms tally c = withTally (tallied tally c) (after scheme rs ts ms c)

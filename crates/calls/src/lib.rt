@@ -4,7 +4,7 @@ ghost use mathlib.Core.List.{List};
 ghost use Prim.Native.Nat.{ℕ};
 ghost use Rattle.rule.specs.declared.Call.the-variants.{Add, Remove, Set, Enrol, Withdraw, Find};
 ghost use Rattle.promise.specs.Promise.{Answers};
-ghost use Rattle.look.specs.Promise.{lists};
+ghost use Rattle.call_start.specs.Promise.{lists};
 ghost use Rattle.calls.specs.Promise.{countedAfter};
 
 pub fn add(

@@ -1,2 +1,2 @@
-pub mod Keeping
-pub mod Going
+pub mod Arrays
+pub mod Turns

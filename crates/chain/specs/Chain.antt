@@ -10,8 +10,8 @@ use Rattle.ring.specs.Scheme.{Positions}
 use Rattle.rule.specs.declared.Move.{Move}
 use Rattle.rule.specs.Calls.{move}
 use Rattle.rule.specs.Sweeps.{seats, turn, newcomer}
-use Rattle.lent.specs.Table.{relayNumber, tabletNumber}
-use Rattle.lent.specs.Placing.{relayPositions}
+use Rattle.tables.specs.Table.{relayNumber, tabletNumber}
+use Rattle.tables.specs.Placement.{relayPositions}
 use Rattle.order.specs.Keys.{slotRelay, Ordered}
 use Rattle.survey.specs.Seats.{lastAfter}
 use Rattle.meaning.specs.Meaning.{tabletsIn}

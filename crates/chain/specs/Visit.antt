@@ -7,7 +7,7 @@ use Prim.Native.Nat.{ℕ, _+_, _-_}
 use lib.Dec.{eqb, ltb}
 use lib.ListN.{length, set}
 use Rattle.ring.specs.Most.{mostRelays}
-use Rattle.lent.specs.Table.{tabletNumber}
+use Rattle.tables.specs.Table.{tabletNumber}
 
 -- l is one more than the place of the greatest tablet there, 0 where there is none
 unfoldable pub givesWay : List ℕ → ℕ → ℕ → Bool

@@ -5,7 +5,7 @@ ghost use Prim.Native.Nat.{ℕ, _+_, _-_, _<_, _≤_};
 ghost use lib.ListN.{length, getD, set};
 ghost use Rattle.ring.specs.Most.{mostRelays, mostTablets};
 ghost use Rattle.ring.specs.Scheme.{positions};
-ghost use Rattle.lent.specs.Table.{tabletPlaces};
+ghost use Rattle.tables.specs.Table.{tabletPlaces};
 ghost use Rattle.chain.specs.Chain.{nameAt, nextSlot, From, Chained};
 ghost use Rattle.chain.specs.Visit.{givesWay, Visited};
 
@@ -38,7 +38,7 @@ fn walker(
     if c == 0 {
         return t;
     }
-    lent::tablet_number(tablets, ring::from_u16(place[c]))
+    tables::tablet_number(tablets, ring::from_u16(place[c]))
 }
 
 // Does the greatest tablet at a relay give way to w?
@@ -49,7 +49,7 @@ fn gives_way(tablets: &[u32], w: ring::TabletNumber, l: usize) -> bool
     if l == 0 {
         return false;
     }
-    w.0 < lent::tablet_number(tablets, l - 1).0
+    w.0 < tables::tablet_number(tablets, l - 1).0
 }
 
 // The c-th sits down at relay i, and the tablet at place l - 1 walks on.

@@ -5,7 +5,7 @@ use Rattle.rule.specs.declared.Call.{Call}
 use Rattle.rule.specs.declared.Call.the-variants.{Add, Remove, Set, Withdraw}
 use Rattle.rule.specs.declared.Move.{Move}
 use Rattle.rule.specs.Calls.{move}
-use Rattle.runs.specs.Drilled.{drillCalls}
+use Rattle.histories.specs.Drilled.{drillCalls}
 
 -- the three relays and cases 1 to 12, then the four calls that follow them, and a 256th and a 257th relay
 unfoldable pub made : List Call

@@ -3,7 +3,7 @@
 ghost use mathlib.Core.Path.{_≡_};
 ghost use Prim.Native.Nat.{_≤_};
 ghost use Rattle.promise.specs.Promise.{Answers};
-ghost use Rattle.look.specs.Promise.{lists};
+ghost use Rattle.call_start.specs.Promise.{lists};
 ghost use Rattle.station.specs.Promise.{attended};
 ghost use Rattle.drill.specs.Calls.{blanks, made};
 
@@ -150,14 +150,14 @@ fn show_stretch(relays: &[u32], tablets: &[u32], sheet: &[u32], relay: u32) {
 }
 
 // The sheet, the stretch of every relay, and that of a relay that is not there.
-fn show_sheet(relays: &[u32; lent::RELAY_NUMBERS], tablets: &[u32]) {
+fn show_sheet(relays: &[u32; tables::RELAY_NUMBERS], tablets: &[u32]) {
     let mut sheet = [0u32; ring::MOST_TABLETS];
     let reply = sheet::sheet(SCHEME, relays, tablets, &mut sheet);
     let refusal = reply.refusal;
     say_number(b"sheet ", rule::number(refusal));
     say(b"\n");
     let mut i: usize = 0;
-    while i < lent::RELAY_NUMBERS {
+    while i < tables::RELAY_NUMBERS {
         let relay = relays[i];
         if relay != 0 {
             show_stretch(relays, tablets, &sheet, relay);
@@ -195,8 +195,8 @@ fn run(
 }
 
 // A relay table with 255 relays of limit 0, 1 to 255.
-fn crowd() -> [u32; lent::RELAY_NUMBERS] {
-    let mut relays = [0u32; lent::RELAY_NUMBERS];
+fn crowd() -> [u32; tables::RELAY_NUMBERS] {
+    let mut relays = [0u32; tables::RELAY_NUMBERS];
     let mut n: u32 = 1;
     let mut i: usize = 0;
     while i < LAST {
@@ -230,8 +230,8 @@ fn show_roster(bytes: &[u8]) {
 }
 
 fn main() {
-    let mut relays = [0u32; lent::RELAY_NUMBERS];
-    let mut tablets = [0u32; lent::TABLET_NUMBERS];
+    let mut relays = [0u32; tables::RELAY_NUMBERS];
+    let mut tablets = [0u32; tables::TABLET_NUMBERS];
     let zero = rule::Tally {
         enrolments: 0,
         withdrawals: 0,

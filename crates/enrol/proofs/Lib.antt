@@ -1,2 +1,2 @@
-pub mod Seating
-pub mod Committing
+pub mod Seated
+pub mod Written

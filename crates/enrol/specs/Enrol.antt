@@ -5,10 +5,10 @@ use Prim.Native.Nat.{ℕ, _≤_}
 use lib.ListN.{length}
 use Rattle.rule.specs.Entry.{put}
 use Rattle.rule.specs.Sweeps.{seated}
-use Rattle.lent.specs.Table.{relayNumber, tabletNumber, tabletRelay}
+use Rattle.tables.specs.Table.{relayNumber, tabletNumber, tabletRelay}
 use Rattle.meaning.specs.Meaning.{tabletsIn}
 use Rattle.write.specs.Tables.{listed}
-use Rattle.place.specs.Listing as Listing
+use Rattle.place.specs.MoveList as Listing
 use Rattle.newcomer.specs.Newcomer.{othersOf}
 
 -- the tablet at place j sits down at another relay, as move c of the list; the relays are told by their places

@@ -3,10 +3,10 @@
 ghost use Prim.Native.Nat.{ℕ, _+_, _*_, _<_, _≤_};
 ghost use lib.ListN.{length};
 ghost use Rattle.rule.specs.declared.Call.the-variants.{Enrol};
-ghost use Rattle.lent.specs.Table.{relayPlaces, tabletPlaces, tabletNumber};
+ghost use Rattle.tables.specs.Table.{relayPlaces, tabletPlaces, tabletNumber};
 ghost use Rattle.write.specs.Wrote.{Climbs};
 ghost use Rattle.promise.specs.Promise.{Answers};
-ghost use Rattle.look.specs.Promise.{lists, after};
+ghost use Rattle.call_start.specs.Promise.{lists, after};
 ghost use Rattle.newcomer.specs.Newcomer.{Seatable};
 ghost use Rattle.enrol.specs.Enrol.{OneSeated, OthersSeated};
 
@@ -28,9 +28,9 @@ fn seat_one(
     ensures { λ _. ⌜ OneSeated (now (relays .entry)) (now (tablets .entry)) (now (tablets .exit))
         (now (moves .entry)) (now (moves .exit)) m c j old new ⌝ }
 {
-    let t = lent::tablet_number(tablets, j);
-    let from = lent::relay_number(relays, old);
-    let to = lent::relay_number(relays, new);
+    let t = tables::tablet_number(tablets, j);
+    let from = tables::relay_number(relays, old);
+    let to = tables::relay_number(relays, new);
     place::list_move(moves, c, t, from, to);
     write::seat_tablet(tablets, m, j, to);
 }
@@ -80,7 +80,7 @@ pub fn enrol(
     let c = p.chain;
     let place = c.place;
     let seat = c.seat;
-    let relay = lent::relay_number(relays, ring::from_u8(seat[0]));
+    let relay = tables::relay_number(relays, ring::from_u8(seat[0]));
     seat_others(relays, tablets, moves, p.m, &place, &seat, c.others);
     write::insert_tablet(tablets, p.m, p.at, t, relay);
     rule::Reply {

@@ -11,10 +11,10 @@ use borrow.Author.Tests.{ltb-true, ltb-false}
 use lib.Dec.{ltb}
 use Rattle.ring.specs.Most.{topNumber, mostLimit}
 use Rattle.ring.proofs.Tests.{split, and-right}
-use Rattle.lent.specs.Table.{relayPlaces, relayNumber, relayLimit, tabletPlaces, tabletNumber, tabletRelay}
-use Rattle.lent.specs.Shape.{used, shape, relaysUsed, tabletsUsed, relayFits, tabletFits, relayShape, tabletShape}
+use Rattle.tables.specs.Table.{relayPlaces, relayNumber, relayLimit, tabletPlaces, tabletNumber, tabletRelay}
+use Rattle.tables.specs.Shape.{used, shape, relaysUsed, tabletsUsed, relayFits, tabletFits, relayShape, tabletShape}
 use Rattle.entries.specs.Entries.{Edge, RelayEntries, TabletEntries}
-use Rattle.lent.proofs.Shaped.{shape-within, shape-entry, shape-rest, shape-used}
+use Rattle.tables.proofs.Shaped.{shape-within, shape-entry, shape-rest, shape-used}
 
 module _ (number : ℕ → ℕ) (places : ℕ) where
   pub edge-start : Edge number places 0 places

@@ -8,10 +8,10 @@ use mathlib.Core.Path.{_≡_, sym, ap, ap₂, _∙_}
 use Prim.Native.Nat.{ℕ}
 use borrow.Author.Tests.{not-true, not-false}
 use Rattle.ring.specs.Scheme.{Positions}
-use Rattle.lent.specs.Table.{RelaysIn, TabletsIn}
-use Rattle.lent.specs.Shape.{relaysUsed, tabletsUsed, relayShape, tabletShape}
-use Rattle.lent.specs.Placing.{placed, right}
-use Rattle.lent.proofs.Shaped.{relays-in, tablets-in}
+use Rattle.tables.specs.Table.{RelaysIn, TabletsIn}
+use Rattle.tables.specs.Shape.{relaysUsed, tabletsUsed, relayShape, tabletShape}
+use Rattle.tables.specs.Placement.{placed, right}
+use Rattle.tables.proofs.Shaped.{relays-in, tablets-in}
 use Rattle.entries.specs.Entries.{RelayEntries, TabletEntries}
 
 module _ {rs : List ℕ} {n : ℕ} {a : Bool} (r : RelayEntries rs a n) where

@@ -9,7 +9,7 @@ use Prim.Native.Nat.{ℕ}
 use native.Mathlib.Omega.{arith}
 use borrow.Author.Tests.{not-false}
 use Rattle.ring.specs.Scheme.{Positions}
-use Rattle.lent.specs.Placing.{right}
+use Rattle.tables.specs.Placement.{right}
 use Rattle.entries.proofs.Found.{relays-found, tablets-found, placed-test}
 use Rattle.entries.specs.Entries.{RelayEntries, TabletEntries, ShapesOf}
 

@@ -4,9 +4,9 @@ use mathlib.Core.List.{List}
 use mathlib.Core.Path.{_≡_}
 use Prim.Native.Nat.{ℕ, _+_, _≤_, _<_}
 use Rattle.ring.specs.Scheme.{Positions}
-use Rattle.lent.specs.Table.{RelaysIn, TabletsIn}
-use Rattle.lent.specs.Shape.{relaysUsed, tabletsUsed, relayShape, tabletShape}
-use Rattle.lent.specs.Placing.{placed, right}
+use Rattle.tables.specs.Table.{RelaysIn, TabletsIn}
+use Rattle.tables.specs.Shape.{relaysUsed, tabletsUsed, relayShape, tabletShape}
+use Rattle.tables.specs.Placement.{placed, right}
 
 -- from place low to place high, somewhere, the numbers stop: there is one before low, and none at high
 pub record Edge (number : ℕ → ℕ) (places low high : ℕ) : Type 0 where

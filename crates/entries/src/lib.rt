@@ -4,7 +4,7 @@ mod shape;
 
 ghost use mathlib.Core.Path.{_≡_};
 ghost use mathlib.Core.Bool.{false};
-ghost use Rattle.lent.specs.Table.{relayPlaces, relayNumber, tabletPlaces, tabletNumber};
+ghost use Rattle.tables.specs.Table.{relayPlaces, relayNumber, tabletPlaces, tabletNumber};
 ghost use Rattle.entries.specs.Entries.{Edge, RelayEntries, TabletEntries, ShapesOf};
 use shape::relay_shape;
 use shape::tablet_shape;
@@ -13,10 +13,10 @@ fn relay_edge(relays: &[u32]) -> usize
     ensures { λ r. ⌜ Edge (relayNumber (now (relays .entry))) (relayPlaces (now (relays .entry))) r r ⌝ }
 {
     let mut low: usize = 0;
-    let mut high = lent::relay_places(relays);
+    let mut high = tables::relay_places(relays);
     while low < high {
         let middle = low + (high - low) / 2;
-        if 0 < lent::relay_number(relays, middle).0 {
+        if 0 < tables::relay_number(relays, middle).0 {
             low = middle + 1;
         } else {
             high = middle;
@@ -29,10 +29,10 @@ fn tablet_edge(tablets: &[u32]) -> usize
     ensures { λ r. ⌜ Edge (tabletNumber (now (tablets .entry))) (tabletPlaces (now (tablets .entry))) r r ⌝ }
 {
     let mut low: usize = 0;
-    let mut high = lent::tablet_places(tablets);
+    let mut high = tables::tablet_places(tablets);
     while low < high {
         let middle = low + (high - low) / 2;
-        if 0 < lent::tablet_number(tablets, middle).0 {
+        if 0 < tables::tablet_number(tablets, middle).0 {
             low = middle + 1;
         } else {
             high = middle;

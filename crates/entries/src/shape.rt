@@ -3,8 +3,8 @@
 ghost use mathlib.Core.Path.{_≡_};
 ghost use Prim.Native.Nat.{_-_, _≤_};
 ghost use Rattle.ring.specs.Most.{topNumber, mostLimit};
-ghost use Rattle.lent.specs.Table.{relayPlaces, relayNumber, relayLimit, tabletPlaces, tabletNumber, tabletRelay};
-ghost use Rattle.lent.specs.Shape.{all, entryRight, unused, entryAt, unusedAt, relayShape, tabletShape};
+ghost use Rattle.tables.specs.Table.{relayPlaces, relayNumber, relayLimit, tabletPlaces, tabletNumber, tabletRelay};
+ghost use Rattle.tables.specs.Shape.{all, entryRight, unused, entryAt, unusedAt, relayShape, tabletShape};
 
 fn entry_right(top: u32, before: u32, number: u32, beside: u32) -> bool
     ensures { λ r. ⌜ r ≡ entryRight top before number beside ⌝ }
@@ -33,9 +33,9 @@ fn relays_rise(relays: &[u32], n: usize) -> bool
     let mut before: u32 = 0;
     let mut i: usize = 0;
     while i < n {
-        let number = lent::relay_number(relays, i).0;
-        let limit = lent::relay_limit(relays, i);
-        ok = lent::both(ok, entry_right(ring::MOST_LIMIT, before, number, limit));
+        let number = tables::relay_number(relays, i).0;
+        let limit = tables::relay_limit(relays, i);
+        ok = tables::both(ok, entry_right(ring::MOST_LIMIT, before, number, limit));
         before = number;
         i += 1;
     }
@@ -47,13 +47,13 @@ fn relays_end(relays: &[u32], n: usize) -> bool
     requires { ⌜ n ≤ relayPlaces (now relays) ⌝ }
     ensures { λ r. ⌜ r ≡ all (unusedAt (relayNumber (now (relays .entry))) (relayLimit (now (relays .entry))) n) (relayPlaces (now (relays .entry)) - n) ⌝ }
 {
-    let left = lent::relay_places(relays) - n;
+    let left = tables::relay_places(relays) - n;
     let mut ok = true;
     let mut i: usize = 0;
     while i < left {
-        let number = lent::relay_number(relays, n + i).0;
-        let limit = lent::relay_limit(relays, n + i);
-        ok = lent::both(ok, unused_place(number, limit));
+        let number = tables::relay_number(relays, n + i).0;
+        let limit = tables::relay_limit(relays, n + i);
+        ok = tables::both(ok, unused_place(number, limit));
         i += 1;
     }
     ok
@@ -63,16 +63,16 @@ fn relays_end(relays: &[u32], n: usize) -> bool
 pub fn relay_shape(relays: &[u32], n: usize) -> bool
     ensures { λ r. ⌜ r ≡ relayShape (now (relays .entry)) n ⌝ }
 {
-    let fits = lent::relay_fits(relays);
+    let fits = tables::relay_fits(relays);
     if !fits {
         return false;
     }
-    if lent::relay_places(relays) < n {
+    if tables::relay_places(relays) < n {
         return false;
     }
     let rise = relays_rise(relays, n);
     let end = relays_end(relays, n);
-    lent::both(rise, end)
+    tables::both(rise, end)
 }
 
 // ---- tablets
@@ -86,9 +86,9 @@ fn tablets_rise(tablets: &[u32], m: usize) -> bool
     let mut before: u32 = 0;
     let mut j: usize = 0;
     while j < m {
-        let number = lent::tablet_number(tablets, j).0;
-        let relay = lent::tablet_relay(tablets, j).0;
-        ok = lent::both(ok, entry_right(ring::TOP_NUMBER, before, number, relay));
+        let number = tables::tablet_number(tablets, j).0;
+        let relay = tables::tablet_relay(tablets, j).0;
+        ok = tables::both(ok, entry_right(ring::TOP_NUMBER, before, number, relay));
         before = number;
         j += 1;
     }
@@ -100,13 +100,13 @@ fn tablets_end(tablets: &[u32], m: usize) -> bool
     requires { ⌜ m ≤ tabletPlaces (now tablets) ⌝ }
     ensures { λ r. ⌜ r ≡ all (unusedAt (tabletNumber (now (tablets .entry))) (tabletRelay (now (tablets .entry))) m) (tabletPlaces (now (tablets .entry)) - m) ⌝ }
 {
-    let left = lent::tablet_places(tablets) - m;
+    let left = tables::tablet_places(tablets) - m;
     let mut ok = true;
     let mut j: usize = 0;
     while j < left {
-        let number = lent::tablet_number(tablets, m + j).0;
-        let relay = lent::tablet_relay(tablets, m + j).0;
-        ok = lent::both(ok, unused_place(number, relay));
+        let number = tables::tablet_number(tablets, m + j).0;
+        let relay = tables::tablet_relay(tablets, m + j).0;
+        ok = tables::both(ok, unused_place(number, relay));
         j += 1;
     }
     ok
@@ -116,14 +116,14 @@ fn tablets_end(tablets: &[u32], m: usize) -> bool
 pub fn tablet_shape(tablets: &[u32], m: usize) -> bool
     ensures { λ r. ⌜ r ≡ tabletShape (now (tablets .entry)) m ⌝ }
 {
-    let fits = lent::tablet_fits(tablets);
+    let fits = tables::tablet_fits(tablets);
     if !fits {
         return false;
     }
-    if lent::tablet_places(tablets) < m {
+    if tables::tablet_places(tablets) < m {
         return false;
     }
     let rise = tablets_rise(tablets, m);
     let end = tablets_end(tablets, m);
-    lent::both(rise, end)
+    tables::both(rise, end)
 }

@@ -3,7 +3,7 @@ ghost use mathlib.Core.List.{List};
 ghost use Prim.Native.Nat.{ℕ};
 ghost use Rattle.rule.specs.declared.Call.the-variants.{Find};
 ghost use Rattle.promise.specs.Promise.{Answers};
-ghost use Rattle.look.specs.Promise.{lists, after};
+ghost use Rattle.call_start.specs.Promise.{lists, after};
 
 // The tablet's relay, and how many relays come before it in the tablet's clockwise order. A find makes no moves, so the promise
 // holds of every move list.
@@ -11,7 +11,7 @@ pub fn find(scheme: u32, relays: &[u32], tablets: &[u32], t: ring::TabletNumber)
     ensures { λ reply. ⌜ ((moves : List ℕ) → Answers (after scheme (now (relays .entry)) (now (tablets .entry)) moves (Find t))
         reply (lists (now (relays .entry)) (now (tablets .entry)) moves)) ⌝ }
 {
-    let l = look::look(scheme, relays, tablets);
+    let l = call_start::look(scheme, relays, tablets);
     let refusal = l.refusal;
     let done = rule::done(refusal);
     if !done {

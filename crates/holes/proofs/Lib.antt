@@ -1,3 +1,3 @@
-pub mod Counting
-pub mod Sweeping
-pub mod Sitting
+pub mod Few
+pub mod Sweeps
+pub mod Seated

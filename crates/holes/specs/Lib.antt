@@ -1,2 +1,2 @@
 pub mod Holes
-pub mod Filling
+pub mod Filled

@@ -5,10 +5,10 @@ ghost use Prim.Native.Nat.{_≤_, _<_};
 ghost use lib.Dec.{ltb};
 ghost use lib.ListN.{take};
 ghost use Rattle.ring.specs.Most.{mostTablets};
-ghost use Rattle.lent.specs.Table.{tabletRelay};
+ghost use Rattle.tables.specs.Table.{tabletRelay};
 ghost use Rattle.write.specs.Tables.{listed};
 ghost use Rattle.holes.specs.Holes.{around, Next, Sweeps, Climbing, MoversAre};
-ghost use Rattle.holes.specs.Filling.{movesOf, Fillers, MovedUp, Filled};
+ghost use Rattle.holes.specs.Filled.{movesOf, Fillers, MovedUp, Filled};
 
 // ---- who moves
 
@@ -111,8 +111,8 @@ fn sit_down(
     let mut c: usize = 0;
     while c < count {
         let j = ring::from_u16(places[c]);
-        let t = lent::tablet_number(tablets, j);
-        let old = lent::tablet_relay(tablets, j);
+        let t = tables::tablet_number(tablets, j);
+        let old = tables::tablet_relay(tablets, j);
         place::list_move(moves, c, t, old, new);
         write::seat_tablet(tablets, m, j, new);
         new = old;
@@ -132,7 +132,7 @@ pub fn fill(
     requires { ⌜ Fillers (now tablets) (now moves) m (now places) count × (at < m) × Climbing (now places) count at m ⌝ }
     ensures { λ _. ⌜ Filled (now (tablets .entry)) (now (tablets .exit)) m at (movesOf (now (tablets .entry)) (tabletRelay (now (tablets .entry)) at) (take count (now (places .entry)))) × (now (moves .exit) ≡ listed (movesOf (now (tablets .entry)) (tabletRelay (now (tablets .entry)) at) (take count (now (places .entry)))) (now (moves .entry))) ⌝ }
 {
-    let r = lent::tablet_relay(tablets, at);
+    let r = tables::tablet_relay(tablets, at);
     sit_down(tablets, moves, m, places, count, r);
     write::delete_tablet(tablets, m, at);
 }

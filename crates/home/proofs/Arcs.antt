@@ -12,7 +12,7 @@ use lib.Dec.{ltb}
 use lib.ListN.{length, getD, set, replicate, length-set, getD-replicate}
 use lib.Seq.{getD-set-other}
 use Rattle.ring.proofs.Tests.{split}
-use Rattle.lent.proofs.Loops.{stored}
+use Rattle.tables.proofs.Loops.{stored}
 use Rattle.home.specs.Home.{keyAt, Begins, arcs, arc, Starts, Marked}
 use Rattle.home.proofs.Walk.{begins-none, begins-later, begins-more}
 

@@ -19,10 +19,10 @@ use Rattle.stage.specs.declared.Stage.{Stage}
 use Rattle.stage.specs.declared.Stage.the-variants.{First, Under, Over}
 use Rattle.stage.specs.declared.Standing.{Standing}
 use Rattle.stage.specs.Stage.{says, other, first}
-use Rattle.desk.specs.Lines.{Left, unchanged, called, under, answered}
+use Rattle.dialogue.specs.Lines.{Left, unchanged, called, under, answered}
 use Rattle.input.specs.Bytes.{keeping, taken, lineThen}
 use Rattle.input.specs.Input.{linesOf, printed, standing, sent}
-use Rattle.input.proofs.Keeping.{Kept, kept-none, kept-more, answered-first}
+use Rattle.input.proofs.Kept.{Kept, kept-none, kept-more, answered-first}
 
 -- ---- lines that begin with bytes taken before
 

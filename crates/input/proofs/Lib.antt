@@ -1,6 +1,6 @@
-pub mod Taking
-pub mod Binding
-pub mod Keeping
+pub mod Takes
+pub mod OneAnswer
+pub mod Kept
 pub mod Room
 pub mod Input
 pub mod Sample

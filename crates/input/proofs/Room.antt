@@ -10,20 +10,20 @@ use lib.Dec.{eqb}
 use lib.ListN.{length, take, drop, length-append, length-take}
 use lib.Seq.{sets-eq, take-append-seam}
 use Rattle.ring.proofs.Tests.{split}
-use Rattle.look.specs.Promise.{Lists, after}
+use Rattle.call_start.specs.Promise.{Lists, after}
 use Rattle.line.specs.declared.Line as lines
 use Rattle.line.specs.declared.Line.the-variants as line
 use Rattle.line.specs.declared.First as firsts
 use Rattle.line.specs.declared.First.the-variants as names
 use Rattle.line.specs.Line.{schemeOf, meaningOf}
 use Rattle.text.specs.Puts.{Puts}
-use Rattle.text.proofs.Putting.{puts-within}
+use Rattle.text.proofs.Puts.{puts-within}
 use Rattle.answer.proofs.Room.{answer-room}
 use Rattle.stage.specs.declared.Stage.{Stage}
 use Rattle.stage.specs.declared.Stage.the-variants.{First, Under, Over}
 use Rattle.stage.specs.declared.Standing.{Standing}
 use Rattle.stage.specs.Stage.{says, other, first}
-use Rattle.desk.specs.Lines.{Left, unchanged, called, under, answered}
+use Rattle.dialogue.specs.Lines.{Left, unchanged, called, under, answered}
 use Rattle.input.specs.Bytes.{keeping, taken, Takes}
 
 -- ---- how long an answer can be

@@ -12,17 +12,17 @@ use Rattle.rule.specs.Rule as Rule
 use Rattle.rule.specs.Refusals as Refusals
 use Rattle.rule.specs.Calls as Calls
 use Rattle.promise.specs.Promise as Promised
-use Rattle.lent.specs.Table as Table
-use Rattle.lent.specs.Shape as Shape
+use Rattle.tables.specs.Table as Table
+use Rattle.tables.specs.Shape as Shape
 use Rattle.meaning.specs.Meaning as Meaning
 use Rattle.write.specs.Tables as Tables
-use Rattle.look.specs.Promise as Promise
+use Rattle.call_start.specs.Promise as Promise
 use Rattle.line.specs.Decimal as Decimal
 use Rattle.line.specs.Line as Line
 use Rattle.answer.specs.Text as Text
 use Rattle.stage.specs.declared.Stage.the-variants.{First}
 use Rattle.stage.specs.Stage as Stage
-use Rattle.desk.specs.Lines as Lines
+use Rattle.dialogue.specs.Lines as Lines
 use Rattle.input.specs.Input as Input
 
 pub joined : List (List ℕ) → List ℕ

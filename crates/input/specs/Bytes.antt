@@ -6,10 +6,10 @@ use mathlib.Core.Path.{_≡_}
 use Prim.Native.Nat.{ℕ, _+_, min}
 use lib.Dec.{eqb}
 use lib.ListN.{length, take, set}
-use Rattle.look.specs.Promise.{Lists}
+use Rattle.call_start.specs.Promise.{Lists}
 use Rattle.stage.specs.declared.Standing.{Standing}
 use Rattle.stage.specs.Stage.{Said}
-use Rattle.desk.specs.Lines.{Left, unchanged, answered, Shows}
+use Rattle.dialogue.specs.Lines.{Left, unchanged, answered, Shows}
 
 -- a byte of a line is kept, and nothing is said to it
 unfoldable pub keeping : Standing → List ℕ → Said

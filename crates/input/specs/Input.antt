@@ -7,7 +7,7 @@ use lib.Dec.{eqb, ltb}
 use Rattle.line.specs.Line.{onto}
 use Rattle.stage.specs.declared.Stage.{Stage}
 use Rattle.stage.specs.declared.Standing.{Standing}
-use Rattle.desk.specs.Lines.{Left, answered}
+use Rattle.dialogue.specs.Lines.{Left, answered}
 use Rattle.input.specs.Bytes.{taken, lineThen}
 
 -- ---- by lines

@@ -1,8 +1,8 @@
 // What a byte of the input does (document 01, "A drill to prove"; docs/DECISIONS.md, reading 9), with nothing read or written. What a line
-// does is `desk`'s.
+// does is `dialogue`'s.
 ghost use mathlib.Core.Path.{_≡_};
 ghost use lib.ListN.{take};
-ghost use Rattle.look.specs.Promise.{lists};
+ghost use Rattle.call_start.specs.Promise.{lists};
 ghost use Rattle.input.specs.Bytes.{Takes};
 
 // The bytes of a line that are kept.
@@ -31,7 +31,7 @@ pub fn take_byte(
     let stage = at.stage;
     let kept = at.kept;
     if b == b'\n' {
-        return desk::answer_line(relays, tablets, moves, answer, stage, kept_part(line, kept));
+        return dialogue::answer_line(relays, tablets, moves, answer, stage, kept_part(line, kept));
     }
     let more = text::put_byte(line, kept, b);
     stage::Standing {

@@ -10,7 +10,7 @@ use native.Mathlib.Omega.{arith}
 use lib.ListN.{length, take, set, length-set}
 use lib.Seq.{take-all, take-suc-set}
 use Rattle.rule.specs.Entry.{entry}
-use Rattle.lent.proofs.Loops.{at-end}
+use Rattle.tables.proofs.Loops.{at-end}
 use Rattle.meaning.specs.Meaning.{places}
 use Rattle.meaning.proofs.Places.{length-places}
 use Rattle.write.specs.Tables.{flat}

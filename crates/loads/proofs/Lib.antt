@@ -1,3 +1,3 @@
 pub mod Counts
-pub mod Starting
-pub mod Housing
+pub mod Starts
+pub mod Housed

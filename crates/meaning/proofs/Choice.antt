@@ -19,9 +19,9 @@ use Rattle.rule.specs.Rooms.{held, choose, orZero}
 use Rattle.rule.proofs.Rooms.{Best, choose-best, total-some}
 use Rattle.rule.proofs.Stable.{best-one}
 use Rattle.rule.proofs.Right.{held-small}
-use Rattle.lent.specs.Table.{relayNumber}
-use Rattle.lent.specs.Placing.{nobody, relayPositions, keyFrom, openKey, leastKey, firstWithRoom}
-use Rattle.lent.proofs.Nearest.{least-low, key-open, key-shut, first-open}
+use Rattle.tables.specs.Table.{relayNumber}
+use Rattle.tables.specs.Placement.{nobody, relayPositions, keyFrom, openKey, leastKey, firstWithRoom}
+use Rattle.tables.proofs.Nearest.{least-low, key-open, key-shut, first-open}
 use Rattle.meaning.specs.Meaning.{places}
 use Rattle.meaning.specs.Ascending.{Ascending}
 use Rattle.meaning.proofs.Places.{At, table-places, held-places, held-at}

@@ -13,8 +13,8 @@ use Rattle.ring.specs.Most.{mostRelays, mostTablets}
 use Rattle.ring.specs.Scheme.{positions}
 use Rattle.ring.proofs.Tests.{and-left, and-right}
 use Rattle.rule.specs.Rule.{right}
-use Rattle.lent.specs.Table.{relayPlaces, relayNumber, relayLimit, relayWhole, tabletPlaces, tabletNumber, tabletRelay, tabletWhole}
-use Rattle.lent.specs.Shape.{relaysUsed, tabletsUsed, relayFits, tabletFits}
+use Rattle.tables.specs.Table.{relayPlaces, relayNumber, relayLimit, relayWhole, tabletPlaces, tabletNumber, tabletRelay, tabletWhole}
+use Rattle.tables.specs.Shape.{relaysUsed, tabletsUsed, relayFits, tabletFits}
 use Rattle.meaning.specs.Meaning.{ringOf, restUnused, fitTables, tablesRight}
 
 pub whole-relays : (rs : List ℕ) → relayFits rs ≡ true → (relayWhole rs ≡ true) × (relayPlaces rs ≤ mostRelays)

@@ -13,9 +13,9 @@ use Rattle.ring.specs.Most.{mostRelays}
 use Rattle.ring.specs.Scheme.{Positions}
 use Rattle.ring.specs.Clockwise.{distance, key}
 use Rattle.ring.proofs.Tests.{split}
-use Rattle.lent.specs.Table.{relayNumber}
-use Rattle.lent.specs.Placing.{relayPositions, keyFrom}
-use Rattle.lent.proofs.Loops.{array-at}
+use Rattle.tables.specs.Table.{relayNumber}
+use Rattle.tables.specs.Placement.{relayPositions, keyFrom}
+use Rattle.tables.proofs.Loops.{array-at}
 use Rattle.meaning.specs.Ascending.{Ascending}
 
 -- the key of relay place i for tablet t, as the loops work it out

@@ -13,7 +13,7 @@ use lib.Dec.{eqb, ltb}
 use Rattle.ring.proofs.Tests.{split}
 use Rattle.rule.specs.Entry.{Entry, entry, numbers, total, load}
 use Rattle.rule.specs.Walks.{greatest}
-use Rattle.rule.proofs.Placing as Placing
+use Rattle.rule.proofs.Placements as Placing
 use Rattle.rule.proofs.Searches.{greatest-sits}
 use Rattle.meaning.specs.Meaning.{places}
 use Rattle.meaning.specs.Ascending.{Ascending}

@@ -13,10 +13,10 @@ use Rattle.ring.specs.Most.{mostRelays}
 use Rattle.ring.specs.Scheme.{Positions}
 use Rattle.ring.proofs.Tests.{split, and-left, and-right}
 use Rattle.rule.specs.Entry.{Entry, total, besideOf}
-use Rattle.lent.proofs.Loops.{all-at, all-of}
-use Rattle.lent.specs.Table.{relayNumber, tabletNumber, tabletRelay}
-use Rattle.lent.specs.Placing.{roomAfter, relayFor, placedAt, placed}
-use Rattle.lent.proofs.Placed.{placed-there}
+use Rattle.tables.proofs.Loops.{all-at, all-of}
+use Rattle.tables.specs.Table.{relayNumber, tabletNumber, tabletRelay}
+use Rattle.tables.specs.Placement.{roomAfter, relayFor, placedAt, placed}
+use Rattle.tables.proofs.Placed.{placed-there}
 use Rattle.meaning.specs.Meaning.{relaysIn, tabletsIn}
 use Rattle.meaning.specs.Ascending.{Ascending}
 use Rattle.meaning.specs.Rising.{Ruled}

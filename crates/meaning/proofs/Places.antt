@@ -26,7 +26,7 @@ use Rattle.rule.specs.Facts.{Among, Table}
 use Rattle.rule.proofs.Sets.{in-sits, sits-in}
 use Rattle.rule.proofs.Counts.{sits-above}
 use Rattle.rule.proofs.Searches.{sits-among, among-sits}
-use Rattle.rule.proofs.Placing.{among-held, held-among}
+use Rattle.rule.proofs.Placements.{among-held, held-among}
 use Rattle.rule.proofs.Demand3.{has-in, in-has, beside-held}
 use Rattle.meaning.specs.Meaning.{places}
 use Rattle.meaning.specs.Ascending.{Ascending}

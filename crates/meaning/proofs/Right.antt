@@ -20,10 +20,10 @@ use Rattle.rule.specs.Entry.{Entry, load}
 use Rattle.rule.specs.Rule as Rule
 use Rattle.rule.specs.Facts.{Right}
 use Rattle.rule.proofs.Right as Right
-use Rattle.lent.specs.Table.{relayPlaces, relayNumber, relayLimit, relayWhole, tabletPlaces, tabletNumber, tabletRelay, tabletWhole}
-use Rattle.lent.specs.Shape.{relaysUsed, tabletsUsed, relayFits, tabletFits, relayShape, tabletShape, shape}
-use Rattle.lent.specs.Placing as Lent
-use Rattle.lent.proofs.Shaped.{used-most}
+use Rattle.tables.specs.Table.{relayPlaces, relayNumber, relayLimit, relayWhole, tabletPlaces, tabletNumber, tabletRelay, tabletWhole}
+use Rattle.tables.specs.Shape.{relaysUsed, tabletsUsed, relayFits, tabletFits, relayShape, tabletShape, shape}
+use Rattle.tables.specs.Placement as Lent
+use Rattle.tables.proofs.Shaped.{used-most}
 use Rattle.meaning.specs.Meaning.{tabletsIn, ringOf, fitTables, tablesRight, Words}
 use Rattle.meaning.specs.Rising.{Ruled, Rises}
 use Rattle.meaning.proofs.Places.{length-places, table-places, places-table, limits-places, places-limits}

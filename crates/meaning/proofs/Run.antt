@@ -20,11 +20,11 @@ use Rattle.ring.proofs.Tests.{split}
 use Rattle.rule.specs.Entry.{Entry, entry, numbers, total, load, count}
 use Rattle.rule.specs.Rooms.{held, less, fill}
 use Rattle.rule.proofs.Rooms.{held-less, total-less}
-use Rattle.rule.proofs.Placing as Placing
-use Rattle.lent.specs.Table.{relayNumber, relayLimit, tabletNumber, tabletRelay}
-use Rattle.lent.specs.Placing.{relayLimits, roomAfter, relayFor}
-use Rattle.lent.proofs.Loops.{array-at}
-use Rattle.lent.proofs.Room.{less-here, less-other}
+use Rattle.rule.proofs.Placements as Placing
+use Rattle.tables.specs.Table.{relayNumber, relayLimit, tabletNumber, tabletRelay}
+use Rattle.tables.specs.Placement.{relayLimits, roomAfter, relayFor}
+use Rattle.tables.proofs.Loops.{array-at}
+use Rattle.tables.proofs.Room.{less-here, less-other}
 use Rattle.meaning.specs.Meaning.{places, relaysIn, tabletsIn}
 use Rattle.meaning.specs.Ascending.{Ascending}
 use Rattle.meaning.proofs.Places.{places-ext, held-places}

@@ -9,9 +9,9 @@ use native.Mathlib.Omega.{arith}
 use borrow.Author.Tests.{ltb-false, eqb-true, eqb-false, lt-ltb, le-ltb, le-leb}
 use lib.Dec.{eqb, ltb}
 use Rattle.ring.proofs.Tests.{split, and-left, and-right}
-use Rattle.lent.specs.Shape.{previous, entryRight, unused, entryAt, unusedAt, shape}
-use Rattle.lent.proofs.Loops.{all-at, all-of}
-use Rattle.lent.proofs.Shaped.{shape-entry, shape-rest}
+use Rattle.tables.specs.Shape.{previous, entryRight, unused, entryAt, unusedAt, shape}
+use Rattle.tables.proofs.Loops.{all-at, all-of}
+use Rattle.tables.proofs.Shaped.{shape-entry, shape-rest}
 use Rattle.meaning.specs.Meaning.{restUnused}
 use Rattle.meaning.specs.Ascending.{Ascending}
 

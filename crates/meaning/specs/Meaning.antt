@@ -12,8 +12,8 @@ use Rattle.rule.specs.Entry.{Entry, entry}
 use Rattle.rule.specs.Rule.{Ring, right}
 use Rattle.rule.specs.Refusals.{Bar, bar, firstBar}
 use Rattle.rule.specs.Calls.{Lent}
-use Rattle.lent.specs.Table.{relayPlaces, relayNumber, relayLimit, tabletPlaces, tabletNumber, tabletRelay}
-use Rattle.lent.specs.Shape.{all, unused, relaysUsed, tabletsUsed, relayFits, tabletFits}
+use Rattle.tables.specs.Table.{relayPlaces, relayNumber, relayLimit, tabletPlaces, tabletNumber, tabletRelay}
+use Rattle.tables.specs.Shape.{all, unused, relaysUsed, tabletsUsed, relayFits, tabletFits}
 
 -- the first n places of a table as entries: the number there, and what stands beside it
 unfoldable pub places : (ℕ → ℕ) → (ℕ → ℕ) → ℕ → List Entry

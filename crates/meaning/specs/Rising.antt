@@ -8,7 +8,7 @@ use Rattle.rule.specs.Entry.{numbers, total}
 use Rattle.ring.specs.Most.{mostLimit}
 use Rattle.rule.specs.Rooms.{fill}
 use Rattle.rule.specs.Facts.{Table, Right}
-use Rattle.lent.specs.Table.{relayNumber, relayLimit, RelaysIn, tabletNumber, tabletRelay, TabletsIn}
+use Rattle.tables.specs.Table.{relayNumber, relayLimit, RelaysIn, tabletNumber, tabletRelay, TabletsIn}
 use Rattle.meaning.specs.Meaning.{relaysIn, tabletsIn, ringOf}
 use Rattle.meaning.specs.Ascending.{Ascending}
 

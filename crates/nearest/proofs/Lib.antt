@@ -1,2 +1,2 @@
 pub mod Nearer
-pub mod Homing
+pub mod Homes

@@ -1,3 +1,3 @@
-pub mod Homing
-pub mod Working
-pub mod Planning
+pub mod Homes
+pub mod Outcomes
+pub mod Prepared

@@ -19,7 +19,7 @@ use Rattle.rule.specs.Calls as Calls
 use Rattle.rule.specs.Sweeps.{seated}
 use Rattle.rule.specs.Stability.{Rising}
 use Rattle.rule.specs.Moves.{tabletsListed}
-use Rattle.lent.specs.Table.{relayPlaces, tabletPlaces, relayNumber, tabletNumber, tabletRelay, tabletWhole}
+use Rattle.tables.specs.Table.{relayPlaces, tabletPlaces, relayNumber, tabletNumber, tabletRelay, tabletWhole}
 use Rattle.nearest.specs.Nearest.{Nearest}
 use Rattle.row.specs.Row.{slotRoom, Leads}
 use Rattle.meaning.specs.Meaning.{tabletsIn, ringOf, lentOf}

@@ -101,7 +101,7 @@ pub fn prepare(
     ensures { λ r. ⌜ ((ms : List ℕ) → places ≡ length ms / 3
         → Prepared scheme (now (relays .entry)) (now (tablets .entry)) ms t r) ⌝ }
 {
-    let l = look::look(scheme, relays, tablets);
+    let l = call_start::look(scheme, relays, tablets);
     let first = l.refusal;
     let done = rule::done(first);
     if !done {
@@ -109,9 +109,9 @@ pub fn prepare(
     }
     let n = l.n;
     let m = l.m;
-    let at = spot::tablet_spot(tablets, m, t);
-    let there = spot::tablet_there(tablets, m, at, t);
-    let bar = newcomer_refusal(t, there, lent::tablet_places(tablets), m);
+    let at = lookup::tablet_spot(tablets, m, t);
+    let there = lookup::tablet_there(tablets, m, at, t);
+    let bar = newcomer_refusal(t, there, tables::tablet_places(tablets), m);
     let done = rule::done(bar);
     if !done {
         return no_enrolment(bar);

@@ -1,2 +1,2 @@
-pub mod Sinking
+pub mod Sinks
 pub mod Keys

@@ -3,9 +3,9 @@
 ghost use mathlib.Core.Path.{_≡_};
 ghost use Prim.Native.Nat.{_+_, _*_, _<_, _≤_};
 ghost use lib.ListN.{length};
-ghost use Rattle.lent.specs.Table.{relayPlaces, relayNumber, relayLimit, tabletPlaces, tabletNumber, tabletRelay};
+ghost use Rattle.tables.specs.Table.{relayPlaces, relayNumber, relayLimit, tabletPlaces, tabletNumber, tabletRelay};
 ghost use Rattle.place.specs.Places.{SetPlace, SetBeside};
-ghost use Rattle.place.specs.Listing.{setMove};
+ghost use Rattle.place.specs.MoveList.{setMove};
 
 pub fn set_relay(relays: &mut [u32], i: usize, r: ring::RelayNumber, limit: u32)
     requires { ⌜ i < relayPlaces (now relays) ⌝ }

@@ -1,3 +1,3 @@
-pub mod Changing
-pub mod Carrying
-pub mod Planning
+pub mod Changes
+pub mod Carried
+pub mod Plans

@@ -5,12 +5,12 @@ use mathlib.Core.Path.{_≡_}
 use Prim.Native.Nat.{ℕ, _+_, _*_, _≤_, _<_}
 use lib.Dec.{eqb}
 use lib.ListN.{length}
-use Rattle.lent.specs.Table.{relayPlaces, relayNumber, tabletPlaces, tabletNumber, tabletRelay}
+use Rattle.tables.specs.Table.{relayPlaces, relayNumber, tabletPlaces, tabletNumber, tabletRelay}
 use Rattle.meaning.specs.Meaning.{places}
 use Rattle.write.specs.Tables.{listed}
 use Rattle.write.specs.Wrote.{WroteTablets}
 use Rattle.place.specs.Places.{SetBeside}
-use Rattle.place.specs.Listing.{setMove}
+use Rattle.place.specs.MoveList.{setMove}
 use Rattle.plan.specs.Changes.{newRelay, changesTo}
 use Rattle.plan.specs.Plan.{Assigned}
 

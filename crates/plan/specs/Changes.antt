@@ -8,8 +8,8 @@ use lib.ListN.{getD}
 use Rattle.ring.specs.Scheme.{Positions}
 use Rattle.rule.specs.declared.Move.{Move}
 use Rattle.rule.specs.Calls.{move}
-use Rattle.lent.specs.Table.{relayNumber, tabletNumber, tabletRelay}
-use Rattle.lent.specs.Placing.{relayFor}
+use Rattle.tables.specs.Table.{relayNumber, tabletNumber, tabletRelay}
+use Rattle.tables.specs.Placement.{relayFor}
 
 -- one tablet more, which stays or moves
 unfoldable pub grown : Bool → List Move → Move → List Move

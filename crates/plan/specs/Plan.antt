@@ -11,10 +11,10 @@ use Rattle.rule.specs.declared.Refusal.{Refusal}
 use Rattle.rule.specs.declared.Refusal.the-variants.{LimitsTooSmall, MoveListTooShort}
 use Rattle.rule.specs.Entry.{total}
 use Rattle.rule.specs.Refusals.{isDone, bar, firstBar}
-use Rattle.lent.specs.Table.{relayPlaces, relayNumber, relayLimit, RelaysIn, TabletsIn}
+use Rattle.tables.specs.Table.{relayPlaces, relayNumber, relayLimit, RelaysIn, TabletsIn}
 use Rattle.meaning.specs.Meaning.{relaysIn}
 use Rattle.meaning.specs.Ascending.{Ascending}
-use Rattle.homes.specs.Homes.{Homes}
+use Rattle.ring_edit.specs.Homes.{Homes}
 use Rattle.refill.specs.Refilled.{Refilled}
 use Rattle.plan.specs.declared.Plan.{Plan}
 use Rattle.plan.specs.Changes.{changesTo, ruledChanges}

@@ -8,9 +8,9 @@ ghost use lib.ListN.{length, getD};
 ghost use Rattle.ring.specs.Most.{mostTablets};
 ghost use Rattle.ring.specs.Scheme.{Positions};
 ghost use Rattle.rule.specs.Entry.{total};
-ghost use Rattle.lent.specs.Table.{relayPlaces, tabletPlaces, tabletRelay};
+ghost use Rattle.tables.specs.Table.{relayPlaces, tabletPlaces, tabletRelay};
 ghost use Rattle.meaning.specs.Meaning.{relaysIn};
-ghost use Rattle.homes.specs.Homes.{Homes};
+ghost use Rattle.ring_edit.specs.Homes.{Homes};
 ghost use Rattle.plan.specs.Changes.{newRelay, changesTo};
 ghost use Rattle.plan.specs.Plan.{Limited, Plans, Assigned, Planned};
 ghost use Rattle.plan.specs.Carried.{MovesOne, MovedOne, Carries, Carried};
@@ -31,7 +31,7 @@ fn limit_sum(relays: &[u32], n: usize) -> usize
     let mut sum: usize = 0;
     let mut i: usize = 0;
     while i < n {
-        sum += ring::from_u32(lent::relay_limit(relays, i));
+        sum += ring::from_u32(tables::relay_limit(relays, i));
         i += 1;
     }
     sum
@@ -50,8 +50,8 @@ fn one_if_moves(
     ensures { λ r. ⌜ r ≡ cond (eqb (tabletRelay (now (tablets .entry)) j) (newRelay (now (relays .entry)) (now (relay .entry)) j)) 0 1 ⌝ }
 {
     let i = ring::from_u8(relay[j]);
-    let new = lent::relay_number(relays, i);
-    let old = lent::tablet_relay(tablets, j);
+    let new = tables::relay_number(relays, i);
+    let old = tables::tablet_relay(tablets, j);
     if old.0 == new.0 { 0 } else { 1 }
 }
 
@@ -138,12 +138,12 @@ fn move_one(
     requires { ⌜ MovesOne (now relays) (now tablets) (now moves) i j c ⌝ }
     ensures { λ r. ⌜ MovedOne (now (relays .entry)) (now (tablets .entry)) (now (tablets .exit)) (now (moves .entry)) (now (moves .exit)) i j c r ⌝ }
 {
-    let old = lent::tablet_relay(tablets, j);
-    let new = lent::relay_number(relays, i);
+    let old = tables::tablet_relay(tablets, j);
+    let new = tables::relay_number(relays, i);
     if old.0 == new.0 {
         return c;
     }
-    let t = lent::tablet_number(tablets, j);
+    let t = tables::tablet_number(tablets, j);
     place::list_move(moves, c, t, old, new);
     place::set_tablet_relay(tablets, j, new);
     c + 1

@@ -1,3 +1,3 @@
 pub mod Outcomes
 pub mod Room
-pub mod Working
+pub mod Works

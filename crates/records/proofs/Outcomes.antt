@@ -17,7 +17,7 @@ use Rattle.rule.specs.Refusals.{isDone}
 use Rattle.rule.specs.Calls.{Lent, Outcome, refusal, accepted, declined, outcome}
 use Rattle.rule.proofs.Accepted.{accepted-is, outcome-accepted, outcome-declined}
 use Rattle.promise.specs.Promise.{settled}
-use Rattle.look.specs.Promise.{written, left}
+use Rattle.call_start.specs.Promise.{written, left}
 
 module _ (p : Positions) (m : Lent) (g : Ring) (c : Call) where
   abbrev o : Outcome

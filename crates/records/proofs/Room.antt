@@ -23,9 +23,9 @@ use Rattle.rule.specs.Calls.{edited, moves, wrongNumbers, refusal, accepted, de
 use Rattle.rule.proofs.Accepted.{bar-passed}
 use Rattle.rule.proofs.Counts.{length-insert, delete-length}
 use Rattle.rule.proofs.Lengths.{moves-length}
-use Rattle.lent.specs.Table.{tabletPlaces, tabletNumber, tabletRelay}
-use Rattle.lent.specs.Shape.{tabletsUsed}
-use Rattle.lent.proofs.Shaped.{used-most}
+use Rattle.tables.specs.Table.{tabletPlaces, tabletNumber, tabletRelay}
+use Rattle.tables.specs.Shape.{tabletsUsed}
+use Rattle.tables.proofs.Shaped.{used-most}
 use Rattle.meaning.specs.Meaning.{ringOf, tablesRight, tablesBars}
 use Rattle.meaning.proofs.Fit.{whole-tablets, right-fit}
 use Rattle.meaning.proofs.Places.{length-places}

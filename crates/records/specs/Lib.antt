@@ -1,3 +1,3 @@
 pub mod Outcome
 pub mod Record
-pub mod Working
+pub mod Works

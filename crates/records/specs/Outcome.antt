@@ -6,9 +6,9 @@ use Rattle.ring.specs.Scheme.{known, positions}
 use Rattle.rule.specs.declared.Call.{Call}
 use Rattle.rule.specs.declared.Move.{Move}
 use Rattle.rule.specs.Calls.{Lent, Outcome, outcome}
-use Rattle.lent.specs.Table.{relayPlaces, tabletPlaces}
+use Rattle.tables.specs.Table.{relayPlaces, tabletPlaces}
 use Rattle.meaning.specs.Meaning.{ringOf, fitTables}
-use Rattle.look.specs.Promise.{Lists, left}
+use Rattle.call_start.specs.Promise.{Lists, left}
 
 -- the tables, and a move list with so many places
 unfoldable pub lentWith : ℕ → List ℕ → List ℕ → ℕ → Lent

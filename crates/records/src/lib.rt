@@ -4,10 +4,10 @@ ghost use Prim.Native.Nat.{_+_, _*_, _<_, min};
 ghost use lib.ListN.{length};
 ghost use Rattle.ring.specs.Most.{mostTablets};
 ghost use Rattle.records.specs.Record.{moveAt};
-ghost use Rattle.records.specs.Working.{Works};
+ghost use Rattle.records.specs.Works.{Works};
 
 // Move i of the numbers.
-pub fn move_at(numbers: &[u32; lent::MOVE_NUMBERS], i: usize) -> rule::Move
+pub fn move_at(numbers: &[u32; tables::MOVE_NUMBERS], i: usize) -> rule::Move
     requires { ⌜ 3 * i + 2 < 3 * mostTablets ⌝ }
     ensures { λ r. ⌜ r ≡ moveAt (now (numbers .entry)) i ⌝ }
 {

@@ -6,11 +6,11 @@ use lib.ListN.{length, getD}
 use Rattle.ring.specs.Most.{mostTablets}
 use Rattle.ring.specs.Scheme.{Positions}
 use Rattle.rule.specs.Entry.{total}
-use Rattle.lent.specs.Table.{relayNumber, RelaysIn}
-use Rattle.lent.specs.Placing.{relayFor}
+use Rattle.tables.specs.Table.{relayNumber, RelaysIn}
+use Rattle.tables.specs.Placement.{relayFor}
 use Rattle.meaning.specs.Meaning.{relaysIn}
 use Rattle.meaning.specs.Ascending.{Ascending}
-use Rattle.homes.specs.Homes.{Homes}
+use Rattle.ring_edit.specs.Homes.{Homes}
 
 -- n relays by rising number, in ring order, with the homes of m tablets, which the limits suffice for
 pub record Refills (rs : List ℕ) (n m : ℕ) (keys home : List ℕ) : Type 0 where

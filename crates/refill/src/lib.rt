@@ -2,7 +2,7 @@
 ghost use mathlib.Core.List.{List};
 ghost use Prim.Native.Nat.{ℕ, _<_};
 ghost use Rattle.ring.specs.Scheme.{Positions};
-ghost use Rattle.homes.specs.Homes.{Homes};
+ghost use Rattle.ring_edit.specs.Homes.{Homes};
 ghost use Rattle.refill.specs.Refilled.{Refills, Refilled};
 
 // For each of the m tablets the place of its relay among the n relays, from the relays in ring order and the tablets' homes.

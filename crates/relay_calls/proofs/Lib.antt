@@ -1,2 +1,2 @@
-pub mod Replacing
-pub mod Finishing
+pub mod Replaced
+pub mod Outcomes

@@ -5,12 +5,12 @@ ghost use lib.ListN.{length};
 ghost use Rattle.rule.specs.declared.Call.{Call};
 ghost use Rattle.rule.specs.declared.Call.the-variants.{Add, Remove, Set};
 ghost use Rattle.promise.specs.Promise.{Answers};
-ghost use Rattle.look.specs.Promise.{lists, after};
+ghost use Rattle.call_start.specs.Promise.{lists, after};
 ghost use Rattle.relay_edit.specs.Edited.{ownNumbers, Edits};
 ghost use Rattle.relay_calls.specs.Finish.{Replaced, Comes};
 
 // The lent table becomes the call's own, as far as it is long.
-fn put_back(relays: &mut [u32], own: &[u32; lent::RELAY_NUMBERS])
+fn put_back(relays: &mut [u32], own: &[u32; tables::RELAY_NUMBERS])
     requires { ⌜ length (now relays) ≤ ownNumbers ⌝ }
     ensures { λ _. ⌜ Replaced (now (own .entry)) (now (relays .entry)) (now (relays .exit)) ⌝ }
 {

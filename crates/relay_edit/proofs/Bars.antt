@@ -15,13 +15,13 @@ use Rattle.rule.specs.declared.Call.the-variants.{Add, Remove, Set}
 use Rattle.rule.specs.Entry.{has}
 use Rattle.rule.specs.Refusals.{Bar, bar, firstBar}
 use Rattle.rule.specs.Calls.{wrongNumbers}
-use Rattle.lent.specs.Table.{relayPlaces, relayNumber, relayLimit}
+use Rattle.tables.specs.Table.{relayPlaces, relayNumber, relayLimit}
 use Rattle.survey.specs.declared.Survey.{Survey}
 use Rattle.meaning.specs.Meaning.{relaysIn, ringOf, lentOf}
 use Rattle.meaning.proofs.Places.{length-places}
-use Rattle.spot.specs.Spot.{missing}
-use Rattle.look.specs.Start.{Start}
-use Rattle.look.proofs.Refusing.{start-ring}
+use Rattle.lookup.specs.Spot.{missing}
+use Rattle.call_start.specs.Start.{Start}
+use Rattle.call_start.proofs.Refusals.{start-ring}
 use Rattle.relay_edit.specs.Refused.{addRefusal, setRefusal}
 
 pub bar-first : {b : Bool} {r : Refusal} (bs : List Bar) → b ≡ true → r ≡ firstBar (bar b r ∷ bs)

@@ -1,6 +1,6 @@
 pub mod Bars
-pub mod Copying
-pub mod Owning
+pub mod Copies
+pub mod OwnTable
 pub mod Numbers
-pub mod Homing
-pub mod Editing
+pub mod Homes
+pub mod Edits

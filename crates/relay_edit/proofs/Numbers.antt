@@ -16,8 +16,8 @@ use Rattle.meaning.specs.Meaning.{places}
 use Rattle.meaning.specs.Ascending.{Ascending}
 use Rattle.meaning.proofs.Places.{next, places-cons}
 use Rattle.meaning.proofs.Edits.{Inserted, insert-places, Deleted, delete-places}
-use Rattle.homes.specs.Shift.{skip}
-use Rattle.homes.proofs.Skipping.{Skip, low, high, skip-low, skip-high, skip-cases, skip-below}
+use Rattle.ring_edit.specs.Shift.{skip}
+use Rattle.ring_edit.proofs.Skips.{Skip, low, high, skip-low, skip-high, skip-cases, skip-below}
 
 unfoldable firstNumber : List Entry → ℕ
 firstNumber [] = 0

@@ -10,13 +10,13 @@ use Rattle.rule.specs.declared.Call.{Call}
 use Rattle.rule.specs.Rule.{Ring}
 use Rattle.rule.specs.Refusals.{isDone, firstBar}
 use Rattle.rule.specs.Calls.{subject, edited, relayOf, passed, wrongNumbers, refusal}
-use Rattle.lent.specs.Table.{relayPlaces}
+use Rattle.tables.specs.Table.{relayPlaces}
 use Rattle.survey.specs.declared.Survey.{Survey}
 use Rattle.meaning.specs.Meaning.{relaysIn, ringOf, lentOf}
 use Rattle.write.specs.Tables.{flat, filled}
-use Rattle.look.specs.Start.{Start}
-use Rattle.homes.specs.declared.Around.{Around}
-use Rattle.homes.specs.Homes.{Homes}
+use Rattle.call_start.specs.Start.{Start}
+use Rattle.ring_edit.specs.declared.Around.{Around}
+use Rattle.ring_edit.specs.Homes.{Homes}
 use Rattle.relay_edit.specs.declared.Edit.{Edit}
 
 -- as many numbers as the longest relay table has

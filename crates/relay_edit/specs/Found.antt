@@ -5,12 +5,12 @@ use mathlib.Core.Path.{_≡_}
 use Prim.Native.Nat.{ℕ}
 use Rattle.rule.specs.Entry.{has}
 use Rattle.rule.specs.Refusals.{isDone}
-use Rattle.lent.specs.Table.{relayNumber}
+use Rattle.tables.specs.Table.{relayNumber}
 use Rattle.survey.specs.declared.Survey.{Survey}
 use Rattle.meaning.specs.Meaning.{relaysIn, tablesRefusal}
-use Rattle.look.specs.Start.{Start}
-use Rattle.spot.specs.Spot.{Spot}
-use Rattle.homes.specs.declared.Around.{Around}
+use Rattle.call_start.specs.Start.{Start}
+use Rattle.lookup.specs.Spot.{Spot}
+use Rattle.ring_edit.specs.declared.Around.{Around}
 use Rattle.relay_edit.specs.declared.found.Found.{Found}
 
 -- right tables of n relays and m tablets; relay r stands at place `at`, or would stand there; the ring order and the homes are the survey's

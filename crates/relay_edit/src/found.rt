@@ -9,12 +9,12 @@ pub struct Found {
     pub m: usize,
     pub at: usize,
     pub there: bool,
-    pub around: homes::Around,
+    pub around: ring_edit::Around,
 }
 
 // Nothing is known of a ring.
-pub(crate) fn nowhere() -> homes::Around {
-    homes::Around {
+pub(crate) fn nowhere() -> ring_edit::Around {
+    ring_edit::Around {
         keys: [0u64; ring::MOST_RELAYS],
         home: [0u8; ring::MOST_TABLETS],
     }
@@ -28,7 +28,7 @@ pub(crate) fn find_relay(
 ) -> Found
     ensures { λ f. ⌜ Finds scheme (now (relays .entry)) (now (tablets .entry)) (r .0) f ⌝ }
 {
-    let l = look::look(scheme, relays, tablets);
+    let l = call_start::look(scheme, relays, tablets);
     let refusal = l.refusal;
     let done = rule::done(refusal);
     if !done {
@@ -43,8 +43,8 @@ pub(crate) fn find_relay(
         };
     }
     let n = l.n;
-    let at = spot::relay_spot(relays, n, r);
-    let there = spot::relay_there(relays, n, at, r);
+    let at = lookup::relay_spot(relays, n, r);
+    let there = lookup::relay_there(relays, n, at, r);
     let keys = l.survey.keys;
     let home = l.survey.home;
     Found {
@@ -53,7 +53,7 @@ pub(crate) fn find_relay(
         m: l.m,
         at: at,
         there: there,
-        around: homes::Around {
+        around: ring_edit::Around {
             keys: keys,
             home: home,
         },

@@ -14,8 +14,8 @@ pub struct Edit {
     pub refusal: rule::Refusal,
     pub n: usize,
     pub m: usize,
-    pub relays: [u32; lent::RELAY_NUMBERS],
-    pub around: homes::Around,
+    pub relays: [u32; tables::RELAY_NUMBERS],
+    pub around: ring_edit::Around,
 }
 
 fn no_edit(refusal: rule::Refusal) -> Edit
@@ -26,16 +26,16 @@ fn no_edit(refusal: rule::Refusal) -> Edit
         refusal: refusal,
         n: 0,
         m: 0,
-        relays: [0u32; lent::RELAY_NUMBERS],
+        relays: [0u32; tables::RELAY_NUMBERS],
         around: around,
     }
 }
 
-fn copied(relays: &[u32]) -> [u32; lent::RELAY_NUMBERS]
+fn copied(relays: &[u32]) -> [u32; tables::RELAY_NUMBERS]
     requires { ⌜ length (now relays) ≤ ownNumbers ⌝ }
     ensures { λ r. ⌜ Copied (now (relays .entry)) r ⌝ }
 {
-    let mut own = [0u32; lent::RELAY_NUMBERS];
+    let mut own = [0u32; tables::RELAY_NUMBERS];
     let mut i: usize = 0;
     while i < relays.len() {
         own[i] = relays[i];
@@ -62,7 +62,7 @@ pub fn edit_add(
         return no_edit(first);
     }
     let n = f.n;
-    let full = lent::relay_places(relays) <= n;
+    let full = tables::relay_places(relays) <= n;
     let wrong = refused::add_refusal(r, limit, f.there, full);
     let done = rule::done(wrong);
     if !done {
@@ -74,7 +74,7 @@ pub fn edit_add(
     let m = f.m;
     let before = f.around;
     let q = ring::relay_at(scheme, r);
-    let around = homes::put_in(scheme, tablets, before, n, m, at, q);
+    let around = ring_edit::put_in(scheme, tablets, before, n, m, at, q);
     let more = n + 1;
     Edit {
         refusal: wrong,
@@ -95,7 +95,7 @@ pub fn edit_remove(scheme: u32, relays: &[u32], tablets: &[u32], r: ring::RelayN
         return no_edit(first);
     }
     let n = f.n;
-    let wrong = spot::missing(r.0, f.there);
+    let wrong = lookup::missing(r.0, f.there);
     let done = rule::done(wrong);
     if !done {
         return no_edit(wrong);
@@ -106,7 +106,7 @@ pub fn edit_remove(scheme: u32, relays: &[u32], tablets: &[u32], r: ring::RelayN
     let m = f.m;
     let less = n - 1;
     let before = f.around;
-    let around = homes::take_out(before, less, m, at);
+    let around = ring_edit::take_out(before, less, m, at);
     Edit {
         refusal: wrong,
         n: less,

@@ -1,4 +1,4 @@
-// The refusals 3 to 7 of adding and setting, by rising number (document 01, "Replies"). Those of removing are `spot::missing`.
+// The refusals 3 to 7 of adding and setting, by rising number (document 01, "Replies"). Those of removing are `lookup::missing`.
 ghost use mathlib.Core.Path.{_≡_};
 ghost use Prim.Native.Nat.{_^_, _<_};
 ghost use lib.Dec.{ltb};

@@ -11,8 +11,8 @@ use lib.Dec.{leb}
 use Rattle.ring.specs.Scheme.{known}
 use Rattle.rule.specs.declared.Refusal.the-variants.{Done, SchemeUnknown, RosterShapeWrong, OutputUnfit}
 use Rattle.rule.specs.Refusals.{firstBar}
-use Rattle.lent.specs.Table.{relayPlaces, tabletPlaces}
-use Rattle.lent.specs.Shape.{relayFits, tabletFits}
+use Rattle.tables.specs.Table.{relayPlaces, tabletPlaces}
+use Rattle.tables.specs.Shape.{relayFits, tabletFits}
 use Rattle.roster.specs.Content.{tablesFit}
 use Rattle.roster.specs.Inner.{earlyRefusal}
 

@@ -10,7 +10,7 @@ use Rattle.rule.specs.Entry.{Entry}
 use Rattle.meaning.specs.Meaning.{places}
 use Rattle.meaning.proofs.Places.{next, places-cons, places-ext}
 use Rattle.write.specs.Tables.{flat}
-use Rattle.place.proofs.Setting.{firstOf, secondOf}
+use Rattle.place.proofs.Sets.{firstOf, secondOf}
 
 pub flat-places : (es : List Entry) → places (firstOf (flat es)) (secondOf (flat es)) (length es) ≡ es
 unfolding flat places

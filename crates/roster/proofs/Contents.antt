@@ -21,8 +21,8 @@ use Rattle.rule.specs.Refusals.{isDone, firstBar}
 use Rattle.rule.specs.Stability.{Rising}
 use Rattle.rule.specs.Facts.{Right}
 use Rattle.rule.proofs.Right as Right
-use Rattle.lent.specs.Table.{relayPlaces, relayNumber, relayLimit, relayWhole, tabletPlaces, tabletNumber, tabletRelay, tabletWhole}
-use Rattle.lent.specs.Shape.{used, relaysUsed, tabletsUsed, relayFits, tabletFits}
+use Rattle.tables.specs.Table.{relayPlaces, relayNumber, relayLimit, relayWhole, tabletPlaces, tabletNumber, tabletRelay, tabletWhole}
+use Rattle.tables.specs.Shape.{used, relaysUsed, tabletsUsed, relayFits, tabletFits}
 use Rattle.meaning.specs.Meaning.{relaysIn, tabletsIn, ringOf, fitTables, tablesRight, tablesBars, tablesRefusal}
 use Rattle.meaning.specs.Ascending.{Ascending}
 use Rattle.meaning.proofs.Places.{places-table}
@@ -31,7 +31,7 @@ use Rattle.meaning.proofs.Right.{same-test}
 use Rattle.meaning.proofs.Shapes.{rest-from}
 use Rattle.survey.specs.declared.Survey.{Survey}
 use Rattle.write.specs.Tables.{flat}
-use Rattle.look.specs.Start.{Start}
+use Rattle.call_start.specs.Start.{Start}
 use Rattle.roster.specs.Content.{numbered, ringRight}
 use Rattle.roster.specs.Inner.{fullTables}
 use Rattle.write.proofs.Filled.{length-flat}

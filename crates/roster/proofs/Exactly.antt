@@ -19,7 +19,7 @@ use Rattle.rule.specs.Rule.{Ring, placement, rising, right}
 use Rattle.rule.specs.Rooms.{fill}
 use Rattle.rule.specs.Refusals.{isDone, firstBar}
 use Rattle.rule.specs.Facts.{Table, Right}
-use Rattle.rule.proofs.Placing.{placement-fill}
+use Rattle.rule.proofs.Placements.{placement-fill}
 use Rattle.rule.proofs.Right.{table-is, right-is, right-from, placed-is, length-numbers}
 use Rattle.layout.specs.Roster.{shapeRight, relayCount, tabletCount, rosterScheme, rosterRing}
 use Rattle.roster.specs.Content.{numbered, ringRight, contentRight, tablesFit, Entries}

@@ -13,8 +13,8 @@ use Rattle.rule.specs.Order as Order
 use Rattle.rule.specs.Rule as Rule
 use Rattle.rule.specs.Refusals as Refusals
 use Rattle.rule.specs.Refusals.{bareReply}
-use Rattle.lent.specs.Table as Table
-use Rattle.lent.specs.Shape as Shape
+use Rattle.tables.specs.Table as Table
+use Rattle.tables.specs.Shape as Shape
 use Rattle.meaning.specs.Meaning as Meaning
 use Rattle.write.specs.Tables as Tables
 use Rattle.promise.specs.Promise as Promise

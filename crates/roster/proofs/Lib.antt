@@ -4,7 +4,7 @@ pub mod Contents
 pub mod Examples
 pub mod Fronts
 pub mod Outcomes
-pub mod Taking
+pub mod TakenOver
 pub mod Exactly
 pub mod Unchanged
 pub mod Turns

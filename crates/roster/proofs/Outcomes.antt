@@ -16,10 +16,10 @@ use Rattle.ring.proofs.Tests.{split, true-false, and-left, and-right}
 use Rattle.rule.specs.declared.Refusal.{Refusal}
 use Rattle.rule.specs.declared.Refusal.the-variants.{Done, RosterContentWrong}
 use Rattle.rule.specs.Refusals.{isDone, bareReply, bar, firstBar}
-use Rattle.lent.specs.Table.{relayPlaces, tabletPlaces}
-use Rattle.lent.specs.Shape.{relayFits, tabletFits}
+use Rattle.tables.specs.Table.{relayPlaces, tabletPlaces}
+use Rattle.tables.specs.Shape.{relayFits, tabletFits}
 use Rattle.promise.specs.Promise.{Answers}
-use Rattle.promise.proofs.Binding as Promise
+use Rattle.promise.proofs.OneAnswer as Promise
 use Rattle.write.specs.Tables.{flat, relayTable, tabletTable}
 use Rattle.layout.specs.declared.Trailer.{Trailer}
 use Rattle.layout.specs.Roster.{shapeRight, rosterScheme, entryBytes, block, rosterRing, Shape}

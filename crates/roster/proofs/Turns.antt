@@ -6,7 +6,7 @@ use mathlib.Core.Path.{refl}
 use Prim.Native.Nat.{ℕ}
 use native.Mathlib.Omega.{arith}
 use Rattle.rule.specs.Refusals.{isDone}
-use Rattle.rule.specs.Applying.{Lowest}
+use Rattle.rule.specs.Applies.{Lowest}
 use Rattle.rule.proofs.Lowest.{lowest-first}
 use Rattle.roster.specs.Reading.{readingBars, refusal, aheadIn, turnOf}
 

@@ -10,8 +10,8 @@ use Rattle.ring.proofs.Tests.{split}
 use Rattle.rule.specs.declared.Refusal.{Refusal}
 use Rattle.rule.specs.Refusals.{isDone, bareReply}
 use Rattle.promise.specs.Promise.{Answers}
-use Rattle.promise.proofs.Binding as Promise
-use Rattle.promise.proofs.Binding.{settled-done, settled-refused}
+use Rattle.promise.proofs.OneAnswer as Promise
+use Rattle.promise.proofs.OneAnswer.{settled-done, settled-refused}
 use Rattle.roster.specs.declared.Reading.{Reading}
 use Rattle.roster.specs.Reading.{refusal, taken, refusedReading, after}
 

@@ -7,8 +7,8 @@ use lib.Dec.{ltb, leb}
 use Rattle.ring.specs.Scheme.{positions}
 use Rattle.rule.specs.Entry.{Entry}
 use Rattle.rule.specs.Rule.{Ring, rising, limitsFit, right}
-use Rattle.lent.specs.Table.{relayPlaces, tabletPlaces}
-use Rattle.lent.specs.Shape.{relayFits, tabletFits}
+use Rattle.tables.specs.Table.{relayPlaces, tabletPlaces}
+use Rattle.tables.specs.Shape.{relayFits, tabletFits}
 use Rattle.layout.specs.Roster.{rosterScheme, rosterRing}
 
 -- no entry's number is zero

@@ -9,8 +9,8 @@ use Rattle.ring.specs.Scheme.{known}
 use Rattle.rule.specs.declared.Refusal.{Refusal}
 use Rattle.rule.specs.declared.Refusal.the-variants.{SchemeUnknown, RosterShapeWrong, OutputUnfit}
 use Rattle.rule.specs.Refusals.{bar, firstBar}
-use Rattle.lent.specs.Table.{relayPlaces, tabletPlaces}
-use Rattle.lent.specs.Shape.{relaysUsed, tabletsUsed}
+use Rattle.tables.specs.Table.{relayPlaces, tabletPlaces}
+use Rattle.tables.specs.Shape.{relaysUsed, tabletsUsed}
 use Rattle.meaning.specs.Meaning.{tablesRight}
 use Rattle.write.specs.Tables.{flat, filled}
 use Rattle.layout.specs.Roster.{entryBytes, block}

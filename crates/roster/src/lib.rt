@@ -24,19 +24,19 @@ pub struct Reading {
 fn tables_fit(n: usize, m: usize, relays: &[u32], tablets: &[u32]) -> bool
     ensures { λ r. ⌜ r ≡ tablesFit n m (now (relays .entry)) (now (tablets .entry)) ⌝ }
 {
-    let relays_fit = lent::relay_fits(relays);
+    let relays_fit = tables::relay_fits(relays);
     if !relays_fit {
         return false;
     }
-    let tablets_fit = lent::tablet_fits(tablets);
+    let tablets_fit = tables::tablet_fits(tablets);
     if !tablets_fit {
         return false;
     }
-    let relay_places = lent::relay_places(relays);
+    let relay_places = tables::relay_places(relays);
     if relay_places < n {
         return false;
     }
-    m <= lent::tablet_places(tablets)
+    m <= tables::tablet_places(tablets)
 }
 
 // The first refusal but for the content's.
@@ -69,17 +69,17 @@ fn full_tables(scheme: u32, relays: &[u32], tablets: &[u32]) -> bool
     requires { ⌜ known scheme ≡ true ⌝ }
     ensures { λ r. ⌜ r ≡ fullTables scheme (now (relays .entry)) (now (tablets .entry)) ⌝ }
 {
-    let l = look::look(scheme, relays, tablets);
+    let l = call_start::look(scheme, relays, tablets);
     let refusal = l.refusal;
     let done = rule::done(refusal);
     if !done {
         return false;
     }
-    let relay_places = lent::relay_places(relays);
+    let relay_places = tables::relay_places(relays);
     if l.n != relay_places {
         return false;
     }
-    let tablet_places = lent::tablet_places(tablets);
+    let tablet_places = tables::tablet_places(tablets);
     l.m == tablet_places
 }
 
@@ -172,8 +172,8 @@ pub fn read(bytes: &[u8], relays: &mut [u32], tablets: &mut [u32]) -> Reading
     if !done {
         return refused(bar);
     }
-    let mut own_relays = [0u32; lent::RELAY_NUMBERS];
-    let mut own_tablets = [0u32; lent::TABLET_NUMBERS];
+    let mut own_relays = [0u32; tables::RELAY_NUMBERS];
+    let mut own_tablets = [0u32; tables::TABLET_NUMBERS];
     let relays_end = 2 * n;
     let tablets_end = 2 * m;
     let full = take_over(

@@ -10,11 +10,11 @@ use native.Mathlib.Omega.{arith}
 use lib.ListN.{getD}
 use Rattle.ring.specs.Most.{mostRelays}
 use Rattle.ring.specs.Clockwise.{clockwise}
-use Rattle.lent.specs.Placing.{nobody, keyFrom, openKey, leastKey, firstWithRoom}
-use Rattle.lent.proofs.Nearest.{least-low, least-high, least-top, key-open, key-shut}
+use Rattle.tables.specs.Placement.{nobody, keyFrom, openKey, leastKey, firstWithRoom}
+use Rattle.tables.proofs.Nearest.{least-low, least-high, least-top, key-open, key-shut}
 use Rattle.order.specs.Keys.{ringKey, slotRelay, Ordered}
 use Rattle.home.specs.Home.{keyAt, Home}
-use Rattle.order.proofs.Sinking.{rising-le}
+use Rattle.order.proofs.Sinks.{rising-le}
 use Rattle.row.specs.Row.{slotRoom, Ahead, both, turn, past, Leads}
 
 module _ (q to i : ℕ) (hq : q < 2 ^ 32) (ht : to < 2 ^ 32) where

@@ -1,3 +1,3 @@
-pub mod Leading
-pub mod Shutting
+pub mod Leads
+pub mod Shut
 pub mod Led

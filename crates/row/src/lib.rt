@@ -6,7 +6,7 @@ ghost use Prim.Native.Nat.{_+_, _%_, _<_, _≤_};
 ghost use lib.Dec.{eqb};
 ghost use lib.ListN.{length, getD};
 ghost use Rattle.ring.specs.Most.{mostRelays};
-ghost use Rattle.lent.specs.Placing.{roomLess};
+ghost use Rattle.tables.specs.Placement.{roomLess};
 ghost use Rattle.order.specs.Keys.{slotRelay};
 ghost use Rattle.row.specs.Row.{slotRoom, Leads, Row, Redirected, Takes};
 

@@ -29,11 +29,11 @@ use Rattle.rule.specs.Calls.{Lent, subject, edited, orNobody, after, mov
 use Rattle.rule.specs.Rooms.{fill}
 use Rattle.rule.specs.Stability.{Rising, In}
 use Rattle.rule.specs.Facts.{Among, Small, Table, Right}
-use Rattle.rule.specs.Applying.{Accepted}
+use Rattle.rule.specs.Applies.{Accepted}
 use Rattle.rule.proofs.Stable.{numbers-fill}
 use Rattle.rule.proofs.Puts.{numbers-put}
 use Rattle.rule.proofs.Sets.{in-insert, in-delete, rising-insert, rising-delete}
-use Rattle.rule.proofs.Placing.{placement-fill}
+use Rattle.rule.proofs.Placements.{placement-fill}
 use Rattle.rule.proofs.Right.{right-is, right-from, length-numbers}
 use Rattle.rule.proofs.Demand3.{in-has}
 

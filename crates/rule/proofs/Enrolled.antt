@@ -28,7 +28,7 @@ use Rattle.rule.proofs.Exists.{left, fair-exists}
 use Rattle.rule.proofs.Enrolment.{Walk, walk-start, walk-evict, walk-settle, evict-open}
 use Rattle.rule.proofs.Withdrawal.{load-held}
 use Rattle.rule.proofs.Orders.{first-some, first-found, first-least, order-in, in-order, order-sorted}
-use Rattle.rule.proofs.Placing.{among-held, held-among, placement-fill}
+use Rattle.rule.proofs.Placements.{among-held, held-among, placement-fill}
 use Rattle.rule.proofs.Searches.{greatest-sits, greatest-top, stops-lower, lower-stops, stops-full, behind-in, behind-sorted, in-behind}
 use Rattle.rule.proofs.Right.{right-stable, held-small, length-numbers}
 

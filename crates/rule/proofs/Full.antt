@@ -21,11 +21,11 @@ use Rattle.rule.specs.Rule.{Ring, full, hasRoom}
 use Rattle.rule.specs.Walks.{hadPassed}
 use Rattle.rule.specs.Facts.{Among, Sorted, Right}
 use Rattle.rule.proofs.Orders.{order-in, in-order, order-sorted}
-use Rattle.rule.proofs.Placing.{among-held, held-among}
+use Rattle.rule.proofs.Placements.{among-held, held-among}
 use Rattle.rule.proofs.Right.{right-stable, right-loads}
 use Rattle.rule.proofs.Searches.{sits-among}
 use Rattle.rule.proofs.Demand3.{has-sits}
-use Rattle.rule.proofs.Holing.{room-passed}
+use Rattle.rule.proofs.Holes.{room-passed}
 
 module _ (p : Positions) (g : Ring) (r : Right p g) where
   -- no more than its limit

@@ -21,7 +21,7 @@ use Rattle.rule.specs.Rule.{Ring}
 use Rattle.rule.specs.Refusals.{numberOf, isDone, Bar, bar, firstBar}
 use Rattle.rule.specs.Calls.{Lent, wrongNumbers, refusal}
 use Rattle.rule.specs.Balance.{balanceBars, balanceRefusal}
-use Rattle.rule.specs.Applying.{OneOf, Given, Lowest, bars}
+use Rattle.rule.specs.Applies.{OneOf, Given, Lowest, bars}
 
 -- only one refusal is none
 pub done-is : (r : Refusal) → isDone r ≡ true → r ≡ Done

@@ -27,12 +27,12 @@ use Rattle.rule.specs.Facts.{Among, Right}
 use Rattle.rule.proofs.Counts.{insert-sits, length-insert, length-delete}
 use Rattle.rule.proofs.Sets.{rising-insert}
 use Rattle.rule.proofs.Orders.{order-in}
-use Rattle.rule.proofs.Placing.{among-held}
+use Rattle.rule.proofs.Placements.{among-held}
 use Rattle.rule.proofs.Right.{right-loads}
 use Rattle.rule.proofs.Demand3.{has-sits, sits-beside}
-use Rattle.rule.proofs.Turning.{turn-placement, distinct-order, distinct-rising, upTo-stop, upTo-go}
-use Rattle.rule.proofs.Holing.{holes-placement}
-use Rattle.rule.proofs.Listing.{Chain, numbers-seated, seated-other, turn-chain, chain-seated, turn-moves, holes-moves}
+use Rattle.rule.proofs.Turns.{turn-placement, distinct-order, distinct-rising, upTo-stop, upTo-go}
+use Rattle.rule.proofs.Holes.{holes-placement}
+use Rattle.rule.proofs.MoveLists.{Chain, numbers-seated, seated-other, turn-chain, chain-seated, turn-moves, holes-moves}
 use Rattle.rule.proofs.Moves.{moved-none}
 use Rattle.rule.proofs.Accepted.{after-is}
 

@@ -21,7 +21,7 @@ use Rattle.rule.specs.Stability.{Rising}
 use Rattle.rule.specs.Calls.{Lent, subject, edited, after, wrongNumbers, refusal}
 use Rattle.rule.specs.Facts.{Right}
 use Rattle.rule.specs.Sets.{Changed}
-use Rattle.rule.specs.Applying.{Accepted}
+use Rattle.rule.specs.Applies.{Accepted}
 use Rattle.rule.proofs.Counts.{length-delete}
 use Rattle.rule.proofs.Right.{right-is}
 use Rattle.rule.proofs.Demand3.{has-sits}

@@ -26,7 +26,7 @@ use Rattle.rule.proofs.Rooms.{Best, total-less}
 use Rattle.rule.proofs.Stable.{stable-fill, fill-stable, head-fair, tail-fair}
 use Rattle.rule.proofs.Counts.{sits-above}
 use Rattle.rule.proofs.Orders.{option-some, option-apart}
-use Rattle.rule.proofs.Placing.{held-among, placement-fill, placement-none}
+use Rattle.rule.proofs.Placements.{held-among, placement-fill, placement-none}
 use Rattle.rule.proofs.Withdrawal.{load-held}
 
 -- ---- tests and facts

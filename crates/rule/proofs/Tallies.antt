@@ -25,7 +25,7 @@ use Rattle.rule.specs.Calls.{Lent, subject, edited, after, wrongNumbers,
 use Rattle.rule.specs.Tally.{more, enrolments, withdrawals, counted, Step, Station, step, run, new, Going, Fit}
 use Rattle.rule.specs.Stability.{Rising, In, Sits}
 use Rattle.rule.specs.Facts.{Right}
-use Rattle.rule.specs.Applying.{Accepted}
+use Rattle.rule.specs.Applies.{Accepted}
 use Rattle.rule.proofs.Counts.{length-insert, length-delete}
 use Rattle.rule.proofs.Right.{right-is, right-stable}
 use Rattle.rule.proofs.Demand3.{has-in, held-has, has-sits}

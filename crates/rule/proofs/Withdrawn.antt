@@ -25,7 +25,7 @@ use Rattle.rule.specs.Facts.{Table, Right}
 use Rattle.rule.proofs.Counts.{above, above-fewer, count-length, length-delete}
 use Rattle.rule.proofs.Chain.{later}
 use Rattle.rule.proofs.Withdrawal.{Gap, gap-start, gap-step, gap-end}
-use Rattle.rule.proofs.Placing.{placement-fill}
+use Rattle.rule.proofs.Placements.{placement-fill}
 use Rattle.rule.proofs.Searches.{sits-among, among-sits, lowest-some, lowest-none, lowest-least}
 use Rattle.rule.proofs.Right.{right-stable, held-small, length-numbers}
 use Rattle.rule.proofs.Demand3.{has-sits}

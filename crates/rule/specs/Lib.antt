@@ -7,7 +7,7 @@ pub mod Facts
 pub mod Sets
 pub mod Refusals
 pub mod Calls
-pub mod Applying
+pub mod Applies
 pub mod Moves
 pub mod Walks
 pub mod Sweeps

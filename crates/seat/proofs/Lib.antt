@@ -1,2 +1,2 @@
-pub mod Passing
-pub mod Standing
+pub mod Slotted
+pub mod Replies

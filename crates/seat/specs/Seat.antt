@@ -7,11 +7,11 @@ use lib.ListN.{getD}
 use Rattle.ring.specs.Most.{mostRelays}
 use Rattle.rule.specs.Entry.{has}
 use Rattle.rule.specs.Refusals.{isDone}
-use Rattle.lent.specs.Table.{tabletNumber, tabletRelay, TabletsIn}
+use Rattle.tables.specs.Table.{tabletNumber, tabletRelay, TabletsIn}
 use Rattle.meaning.specs.Meaning.{tabletsIn}
 use Rattle.meaning.specs.Ascending.{Ascending}
 use Rattle.slots.specs.Slots.{stepsTo}
-use Rattle.spot.specs.Spot.{missing}
+use Rattle.lookup.specs.Spot.{missing}
 use Rattle.seat.specs.declared.Seat.{Seat}
 
 -- m tablets by rising number, of each its home and its relay's slot among n relays

@@ -36,9 +36,9 @@ pub fn seat_of<'a>(
     requires { ⌜ Slotted (now tablets) n m (now home) (now slot) ⌝ }
     ensures { λ s. ⌜ SeatOf (now (tablets .entry)) n m (now (home .entry)) (now (slot .entry)) (t .0) s ⌝ }
 {
-    let at = spot::tablet_spot(tablets, m, t);
-    let there = spot::tablet_there(tablets, m, at, t);
-    let refusal = spot::missing(t.0, there);
+    let at = lookup::tablet_spot(tablets, m, t);
+    let there = lookup::tablet_there(tablets, m, at, t);
+    let refusal = lookup::missing(t.0, there);
     let done = rule::done(refusal);
     if !done {
         return Seat {
@@ -52,7 +52,7 @@ pub fn seat_of<'a>(
     Seat {
         refusal: refusal,
         at: at,
-        relay: lent::tablet_relay(tablets, at),
+        relay: tables::tablet_relay(tablets, at),
         passed: passed as u32,
     }
 }

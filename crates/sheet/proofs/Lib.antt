@@ -1,10 +1,10 @@
 pub mod Lists
 pub mod Indices
-pub mod Filling
-pub mod Pointing
-pub mod Laying
-pub mod Sheeting
+pub mod Fills
+pub mod NextIndices
+pub mod Lays
+pub mod Outcomes
 pub mod Examples
-pub mod Holding
+pub mod Contents
 pub mod Unchanged
 pub mod Lowest

@@ -5,7 +5,7 @@ use mathlib.Core.List.{List}
 use Prim.Native.Nat.{ℕ}
 use native.Mathlib.Omega.{arith}
 use Rattle.rule.specs.Refusals.{numberOf}
-use Rattle.rule.specs.Applying.{Lowest}
+use Rattle.rule.specs.Applies.{Lowest}
 use Rattle.rule.proofs.Lowest.{lowest-number}
 use Rattle.meaning.specs.Meaning.{tablesBars}
 use Rattle.sheet.specs.Promise.{sheetBars, sheetRefusal}

@@ -11,8 +11,8 @@ use Rattle.rule.specs.declared.Refusal.{Refusal}
 use Rattle.rule.specs.declared.Reply.{Reply}
 use Rattle.rule.specs.Refusals.{isDone, bareReply}
 use Rattle.promise.specs.Promise.{Answers}
-use Rattle.promise.proofs.Binding as Promise
-use Rattle.promise.proofs.Binding.{settled-done, settled-refused}
+use Rattle.promise.proofs.OneAnswer as Promise
+use Rattle.promise.proofs.OneAnswer.{settled-done, settled-refused}
 use Rattle.sheet.specs.Promise.{sheetRefusal, after}
 
 module _ (s : ℕ) (rs ts lent : List ℕ) {r : Reply} {lent′ : List ℕ} (a : Answers (after s rs ts lent) r lent′) where

@@ -15,7 +15,7 @@ use Rattle.ring.specs.Clockwise.{key}
 use Rattle.ring.proofs.Order.{key-apart}
 use Rattle.rule.specs.Entry.{Entry, entry, first, upTo}
 use Rattle.rule.specs.Facts.{Among, Sorted, Small, Distinct}
-use Rattle.rule.proofs.Turning.{upTo-stop, upTo-go}
+use Rattle.rule.proofs.Turns.{upTo-stop, upTo-go}
 use Rattle.meaning.specs.Meaning.{places}
 use Rattle.meaning.proofs.Places.{places-cons, next}
 

@@ -17,9 +17,9 @@ use Rattle.rule.specs.Entry.{Entry, entry}
 use Rattle.rule.specs.Order.{order}
 use Rattle.rule.specs.Facts.{Among, Small}
 use Rattle.rule.proofs.Orders.{order-in, in-order, order-sorted}
-use Rattle.rule.proofs.Turning.{distinct-order, distinct-rising}
-use Rattle.lent.specs.Table.{relayNumber, relayLimit}
-use Rattle.lent.specs.Placing.{relayPositions, keyFrom}
+use Rattle.rule.proofs.Turns.{distinct-order, distinct-rising}
+use Rattle.tables.specs.Table.{relayNumber, relayLimit}
+use Rattle.tables.specs.Placement.{relayPositions, keyFrom}
 use Rattle.order.specs.Keys.{slotRelay, Ordered}
 use Rattle.home.specs.Home.{keyAt, Home}
 use Rattle.row.proofs.Led.{keyOf, nearer}

@@ -4,7 +4,7 @@ use mathlib.Core.List.{List}
 use Prim.Native.Nat.{ℕ, _+_, _-_}
 use lib.Dec.{ltb, leb}
 use Rattle.rule.specs.Entry.{Entry}
-use Rattle.lent.specs.Table.{relayNumber, relayLimit}
+use Rattle.tables.specs.Table.{relayNumber, relayLimit}
 use Rattle.order.specs.Keys.{slotRelay}
 use Rattle.meaning.specs.Meaning.{places}
 

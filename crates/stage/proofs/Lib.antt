@@ -1,1 +1,1 @@
-pub mod Saying
+pub mod Says

@@ -1,3 +1,3 @@
 pub mod Records
-pub mod Attending
+pub mod Attends
 pub mod Lent

@@ -13,7 +13,7 @@ use Rattle.rule.specs.Calls.{move}
 use Rattle.write.specs.Tables.{flatMoves}
 use Rattle.records.specs.Outcome.{recorded}
 use Rattle.records.specs.Record.{moveAt}
-use Rattle.station.specs.Handing.{handed}
+use Rattle.station.specs.Handed.{handed}
 
 pub length-handed : (list : List Move) (numbers : List ℕ) (n : ℕ) → length (handed list numbers n) ≡ length list
 unfolding handed

@@ -9,7 +9,7 @@ use Rattle.rule.specs.declared.Reply.{Reply}
 use Rattle.rule.specs.declared.Tally.{Tally}
 use Rattle.rule.specs.Tally.{counted}
 use Rattle.promise.specs.Promise.{After, withTally}
-use Rattle.look.specs.Promise.{Lists, left}
+use Rattle.call_start.specs.Promise.{Lists, left}
 use Rattle.records.specs.Outcome.{outcomeWith, recorded}
 
 -- the promise of a call, with its moves as records, and the tally with the call counted

@@ -6,8 +6,8 @@ ghost use lib.ListN.{length};
 ghost use Rattle.ring.specs.Most.{mostTablets};
 ghost use Rattle.rule.specs.Tally.{counted};
 ghost use Rattle.promise.specs.Promise.{Answers};
-ghost use Rattle.look.specs.Promise.{lists};
-ghost use Rattle.station.specs.Handing.{handed};
+ghost use Rattle.call_start.specs.Promise.{lists};
+ghost use Rattle.station.specs.Handed.{handed};
 ghost use Rattle.station.specs.Promise.{attended};
 
 // The lent tally with a call that got this reply.
@@ -18,7 +18,7 @@ pub fn count_into(t: &mut rule::Tally, c: rule::Call, r: rule::Reply)
 }
 
 // The first moves of the numbers become the first records of the list, and the records behind them stay.
-fn hand_out(list: &mut [rule::Move], numbers: &[u32; lent::MOVE_NUMBERS], count: usize)
+fn hand_out(list: &mut [rule::Move], numbers: &[u32; tables::MOVE_NUMBERS], count: usize)
     requires { ⌜ (count ≤ length (now list)) × (3 * count ≤ 3 * mostTablets) ⌝ }
     ensures { λ _. ⌜ now (list .exit) ≡ handed (now (list .entry)) (now (numbers .entry)) count ⌝ }
 {
@@ -41,7 +41,7 @@ pub fn call(
     ensures { λ r. ⌜ Answers (attended scheme (now (relays .entry)) (now (tablets .entry)) (now (list .entry)) (now (t .entry)) c)
         r (lists (now (relays .exit)) (now (tablets .exit)) (now (list .exit)), now (t .exit)) ⌝ }
 {
-    let mut numbers = [0u32; lent::MOVE_NUMBERS];
+    let mut numbers = [0u32; tables::MOVE_NUMBERS];
     let r = records::work_on(scheme, relays, tablets, &mut numbers, list.len(), c);
     hand_out(list, &numbers, records::made(r));
     count_into(t, c, r);

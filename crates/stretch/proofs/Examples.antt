@@ -9,8 +9,8 @@ use Rattle.rule.specs.Entry as Entry
 use Rattle.rule.specs.Order as Order
 use Rattle.rule.specs.Rule as Rule
 use Rattle.rule.specs.Sheet as Sheet
-use Rattle.lent.specs.Table as Table
-use Rattle.lent.specs.Shape as Shape
+use Rattle.tables.specs.Table as Table
+use Rattle.tables.specs.Shape as Shape
 use Rattle.meaning.specs.Meaning as Meaning
 use Rattle.stretch.specs.Promise.{stretchOf}
 

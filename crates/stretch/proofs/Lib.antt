@@ -1,8 +1,8 @@
 pub mod Begins
-pub mod Listing
-pub mod Comparing
-pub mod Standing
-pub mod Stretching
-pub mod Binding
+pub mod Indices
+pub mod Compared
+pub mod There
+pub mod Outcomes
+pub mod OneAnswer
 pub mod Content
 pub mod Examples

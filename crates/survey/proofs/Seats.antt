@@ -15,16 +15,16 @@ use lib.Dec.{ltb, eqb}
 use lib.ListN.{length, getD, set, replicate, length-set}
 use Rattle.ring.specs.Most.{mostRelays, mostTablets}
 use Rattle.ring.specs.Scheme.{Positions}
-use Rattle.lent.specs.Table.{relayNumber, tabletNumber, tabletRelay}
-use Rattle.lent.specs.Placing.{relayPositions, relayLimits, firstWithRoom, roomLess, roomAfter, relayFor, placedAt}
-use Rattle.lent.proofs.Loops.{stored}
-use Rattle.lent.proofs.Room.{room-more, room-size, room-beyond}
-use Rattle.lent.proofs.Placed.{for-tablet, placed-none}
+use Rattle.tables.specs.Table.{relayNumber, tabletNumber, tabletRelay}
+use Rattle.tables.specs.Placement.{relayPositions, relayLimits, firstWithRoom, roomLess, roomAfter, relayFor, placedAt}
+use Rattle.tables.proofs.Loops.{stored}
+use Rattle.tables.proofs.Room.{room-more, room-size, room-beyond}
+use Rattle.tables.proofs.Placed.{for-tablet, placed-none}
 use Rattle.order.specs.Keys.{slotRelay, Ordered}
 use Rattle.home.specs.Home.{keyAt, Home}
 use Rattle.row.specs.Row.{slotRoom, Leads, Row, Takes}
 use Rattle.survey.specs.Seats.{lastAfter, HomeByte, Seats, Surveyed}
-use Rattle.row.proofs.Leading.{leads-at}
+use Rattle.row.proofs.Leads.{leads-at}
 use Rattle.row.proofs.Led.{led, led-none}
 
 -- ---- no tablet yet

@@ -6,8 +6,8 @@ use Prim.Native.Nat.{ℕ, zero, suc, _%_, _<_}
 use lib.ListN.{length, getD, set, replicate}
 use Rattle.ring.specs.Most.{mostRelays, mostTablets}
 use Rattle.ring.specs.Scheme.{Positions}
-use Rattle.lent.specs.Table.{tabletNumber}
-use Rattle.lent.specs.Placing.{relayPositions, roomAfter, relayFor}
+use Rattle.tables.specs.Table.{tabletNumber}
+use Rattle.tables.specs.Placement.{relayPositions, roomAfter, relayFor}
 use Rattle.order.specs.Keys.{slotRelay, Ordered}
 use Rattle.home.specs.Home.{keyAt, Home}
 use Rattle.row.specs.Row.{Row}

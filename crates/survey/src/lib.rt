@@ -7,8 +7,8 @@ ghost use lib.Dec.{eqb, ltb};
 ghost use lib.ListN.{getD};
 ghost use Rattle.ring.specs.Most.{mostRelays};
 ghost use Rattle.ring.specs.Scheme.{positions};
-ghost use Rattle.lent.specs.Table.{relayPlaces, relayNumber, RelaysIn, tabletPlaces, tabletRelay, TabletsIn};
-ghost use Rattle.lent.specs.Placing.{placed};
+ghost use Rattle.tables.specs.Table.{relayPlaces, relayNumber, RelaysIn, tabletPlaces, tabletRelay, TabletsIn};
+ghost use Rattle.tables.specs.Placement.{placed};
 ghost use Rattle.survey.specs.Seats.{Surveyed};
 
 // What is known once the tables are found right: the relays in ring order, the room left, the row, for each relay one more than
@@ -35,7 +35,7 @@ fn stands_beside(
     ensures { λ r. ⌜ r ≡ (ltb 0 (getD (now (room .entry)) i 0) && eqb (relayNumber (now (relays .entry)) i) (tabletRelay (now (tablets .entry)) j)) ⌝ }
 {
     if 0 < room[i] {
-        lent::relay_number(relays, i).0 == lent::tablet_relay(tablets, j).0
+        tables::relay_number(relays, i).0 == tables::tablet_relay(tablets, j).0
     } else {
         false
     }
@@ -60,7 +60,7 @@ pub fn look_over(scheme: u32, relays: &[u32], tablets: &[u32], n: usize, m: usiz
     let mut h: usize = 0;
     let mut j: usize = 0;
     while j < m {
-        let p = ring::tablet_at(scheme, lent::tablet_number(tablets, j));
+        let p = ring::tablet_at(scheme, tables::tablet_number(tablets, j));
         h = home::home_of(&keys, &start, n, in_turn, h, from, p);
         from = p;
         let k = row::led_to(&next, h);

@@ -1,2 +1,2 @@
-pub mod Serving
-pub mod Binding
+pub mod Served
+pub mod OneAnswer

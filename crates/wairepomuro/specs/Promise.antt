@@ -9,7 +9,7 @@ use Rattle.rule.specs.Refusals.{numberOf}
 use Rattle.rule.specs.Balance.{balance}
 use Rattle.promise.specs.Promise.{After}
 use Rattle.reply.specs.Numbers.{replyNumbers}
-use Rattle.look.specs.Promise.{Lists}
+use Rattle.call_start.specs.Promise.{Lists}
 use Rattle.sheet.specs.Promise as Sheet
 use Rattle.stretch.specs.Promise.{stretchOf}
 use Rattle.roster.specs.declared.Reading.{Reading}

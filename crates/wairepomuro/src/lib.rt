@@ -7,7 +7,7 @@ ghost use Rattle.rule.specs.declared.Call.the-variants.{Add, Remove, Set, Enrol
 ghost use Rattle.rule.specs.Refusals.{numberOf};
 ghost use Rattle.promise.specs.Promise.{Answers};
 ghost use Rattle.meaning.specs.Meaning.{tablesRefusal};
-ghost use Rattle.look.specs.Promise.{lists};
+ghost use Rattle.call_start.specs.Promise.{lists};
 ghost use Rattle.wairepomuro.specs.Promise.{servedCall, servedSheet, servedReading, Shares, Spans};
 
 // Are these right tables? Answers with the number of the refusal that every call would give for them: 0, 1 or 2.
@@ -15,7 +15,7 @@ ghost use Rattle.wairepomuro.specs.Promise.{servedCall, servedSheet, ser
 pub extern "C" fn wairepomuro_check(scheme: u32, relays: &[u32], tablets: &[u32]) -> u32
     ensures { λ x. ⌜ x ≡ numberOf (tablesRefusal scheme (now (relays .entry)) (now (tablets .entry))) ⌝ }
 {
-    let refusal = look::check(scheme, relays, tablets);
+    let refusal = call_start::check(scheme, relays, tablets);
     rule::number(refusal)
 }
 

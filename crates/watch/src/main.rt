@@ -5,7 +5,7 @@ ghost use mathlib.Core.Path.{_≡_};
 ghost use Prim.Native.Nat.{_≤_, _<_, min};
 ghost use lib.ListN.{length, take};
 ghost use lib.Seq.{sets};
-ghost use Rattle.watch.specs.Reading.{Brings};
+ghost use Rattle.watch.specs.Brought.{Brings};
 
 const STDIN: i32 = 0;
 
@@ -108,9 +108,9 @@ fn take_chunk(
 
 // A proved loop has to end, and nothing says that the input does. So the turns are counted down.
 fn main() {
-    let mut relays = [0u32; lent::RELAY_NUMBERS];
-    let mut tablets = [0u32; lent::TABLET_NUMBERS];
-    let mut moves = [0u32; lent::MOVE_NUMBERS];
+    let mut relays = [0u32; tables::RELAY_NUMBERS];
+    let mut tablets = [0u32; tables::TABLET_NUMBERS];
+    let mut moves = [0u32; tables::MOVE_NUMBERS];
     let mut answer = [0u8; ANSWER];
     let mut line = [0u8; KEPT];
     let mut chunk = io::buffer();

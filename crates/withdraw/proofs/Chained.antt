@@ -19,18 +19,18 @@ use Rattle.rule.specs.Walks.{hadPassed}
 use Rattle.rule.specs.Sweeps.{holes}
 use Rattle.rule.specs.Facts.{Among}
 use Rattle.rule.proofs.Puts.{delete-hit, delete-miss}
-use Rattle.rule.proofs.Holing.{holes-take, holes-pass, holes-skip, lower-passed}
-use Rattle.lent.specs.Table.{tabletNumber, tabletRelay}
+use Rattle.rule.proofs.Holes.{holes-take, holes-pass, holes-skip, lower-passed}
+use Rattle.tables.specs.Table.{tabletNumber, tabletRelay}
 use Rattle.survey.specs.declared.Survey.{Survey}
 use Rattle.meaning.specs.Meaning.{places, relaysIn, tabletsIn}
 use Rattle.meaning.specs.Ascending.{Ascending}
 use Rattle.meaning.proofs.Places.{beside-places, has-place}
 use Rattle.slots.proofs.Lists.{Indexed, indexed}
-use Rattle.look.specs.Start.{Start}
-use Rattle.look.proofs.Refusing.{start-rises}
+use Rattle.call_start.specs.Start.{Start}
+use Rattle.call_start.proofs.Refusals.{start-rises}
 use Rattle.holes.specs.Holes.{passedAt, movers}
-use Rattle.holes.specs.Filling.{movesOf}
-use Rattle.holes.proofs.Sweeping.{movers-pass, movers-take}
+use Rattle.holes.specs.Filled.{movesOf}
+use Rattle.holes.proofs.Sweeps.{movers-pass, movers-take}
 use Rattle.withdraw.proofs.Known.{right, passed-at}
 
 -- ---- the places from one on

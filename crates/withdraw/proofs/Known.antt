@@ -22,8 +22,8 @@ use Rattle.rule.specs.Facts.{Among, Right}
 use Rattle.rule.proofs.Counts.{lower-load-one}
 use Rattle.rule.proofs.Searches.{sits-among, among-sits}
 use Rattle.rule.proofs.Right.{held-small, right-stable, right-loads}
-use Rattle.rule.proofs.Holing.{room-passed}
-use Rattle.lent.specs.Table.{relayNumber, relayLimit, tabletNumber, tabletRelay}
+use Rattle.rule.proofs.Holes.{room-passed}
+use Rattle.tables.specs.Table.{relayNumber, relayLimit, tabletNumber, tabletRelay}
 use Rattle.order.specs.Keys.{slotRelay}
 use Rattle.survey.specs.declared.Survey.{Survey}
 use Rattle.row.specs.Row.{slotRoom}
@@ -32,9 +32,9 @@ use Rattle.meaning.specs.Rising.{Rises}
 use Rattle.meaning.proofs.Places.{places-sits, held-places}
 use Rattle.meaning.proofs.Words.{tablet-relay-word}
 use Rattle.meaning.proofs.Right.{right-room}
-use Rattle.look.specs.Start.{Start}
-use Rattle.look.proofs.Refusing.{start-rises, start-ring}
-use Rattle.seat.proofs.Passing.{home-within, home-byte, slot-within, slot-relay, passed-steps}
+use Rattle.call_start.specs.Start.{Start}
+use Rattle.call_start.proofs.Refusals.{start-rises, start-ring}
+use Rattle.seat.proofs.Slotted.{home-within, home-byte, slot-within, slot-relay, passed-steps}
 use Rattle.holes.specs.Holes.{passedAt, Sweeps}
 use Rattle.withdraw.proofs.Around.{around-steps}
 

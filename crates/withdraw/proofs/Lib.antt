@@ -1,4 +1,4 @@
 pub mod Around
 pub mod Known
 pub mod Chained
-pub mod Withdrawing
+pub mod Outcomes

@@ -18,14 +18,14 @@ use lib.ListN.{length, getD, take, drop, replicate, length-drop, length-replicat
 use lib.Seq.{length-take-le, take-suc, getD-drop, ext-getD}
 use Rattle.ring.proofs.Tests.{and-left, and-right}
 use Rattle.rule.specs.Entry.{Entry, entry}
-use Rattle.lent.specs.Table.{relayPlaces, relayNumber, relayLimit, relayWhole, tabletPlaces, tabletNumber, tabletRelay, tabletWhole}
-use Rattle.lent.specs.Shape.{unused}
-use Rattle.lent.proofs.Loops.{eq-or-ne, all-at}
+use Rattle.tables.specs.Table.{relayPlaces, relayNumber, relayLimit, relayWhole, tabletPlaces, tabletNumber, tabletRelay, tabletWhole}
+use Rattle.tables.specs.Shape.{unused}
+use Rattle.tables.proofs.Loops.{eq-or-ne, all-at}
 use Rattle.meaning.specs.Meaning.{places, relaysIn, tabletsIn, restUnused}
 use Rattle.write.specs.Tables.{flat, filled}
 use Rattle.write.specs.Wrote.{WroteRelays, WroteTablets}
 use Rattle.write.specs.Places.{TookOut, Zeros}
-use Rattle.place.proofs.Setting.{firstOf, secondOf}
+use Rattle.place.proofs.Sets.{firstOf, secondOf}
 
 -- ---- the test
 

@@ -12,7 +12,7 @@ use lib.ListN.{length, drop, length-append, length-drop}
 use lib.Seq.{sets, sets-eq, take-at, drop-append-add, drop-drop}
 use Rattle.rule.specs.declared.Move.{Move}
 use Rattle.write.specs.Tables.{flatMoves, listed}
-use Rattle.place.specs.Listing.{setMove}
+use Rattle.place.specs.MoveList.{setMove}
 
 pub length-moves : (ms : List Move) → length (flatMoves ms) ≡ 3 * length ms
 unfolding flatMoves

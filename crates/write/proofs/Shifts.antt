@@ -11,7 +11,7 @@ use native.Mathlib.Nat.{le-antisymm}
 use native.Mathlib.Numerals.{add-one}
 use native.Mathlib.Omega.{arith}
 use Rattle.rule.specs.Entry.{Entry, entry, insert, delete, put}
-use Rattle.lent.proofs.Loops.{eq-or-ne}
+use Rattle.tables.proofs.Loops.{eq-or-ne}
 use Rattle.write.specs.Wrote.{Place, Climbs}
 use Rattle.write.proofs.Spans.{firsts, firsts-insert, firsts-delete, firsts-put}
 

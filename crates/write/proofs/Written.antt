@@ -7,7 +7,7 @@ use mathlib.Core.Path.{_≡_, ap, ap₂}
 use Prim.Native.Nat.{ℕ}
 use lib.ListN.{length}
 use Rattle.rule.specs.Entry.{Entry, entry}
-use Rattle.lent.specs.Table.{relayNumber, relayLimit, tabletNumber, tabletRelay}
+use Rattle.tables.specs.Table.{relayNumber, relayLimit, tabletNumber, tabletRelay}
 use Rattle.write.specs.Wrote.{WroteRelays, WroteTablets}
 use Rattle.place.specs.Places.{SetPlace, SetBeside}
 use Rattle.write.specs.Places.{TookOut}

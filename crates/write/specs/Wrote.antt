@@ -5,7 +5,7 @@ use mathlib.Core.Path.{_≡_}
 use Prim.Native.Nat.{ℕ, _≤_, _<_}
 use lib.ListN.{length}
 use Rattle.rule.specs.Entry.{Entry}
-use Rattle.lent.specs.Table.{relayNumber, relayLimit, tabletNumber, tabletRelay}
+use Rattle.tables.specs.Table.{relayNumber, relayLimit, tabletNumber, tabletRelay}
 use Rattle.meaning.specs.Meaning.{relaysIn, tabletsIn}
 
 -- the first m places of the tablet table are these entries, and every later place is as it was

@@ -2,7 +2,7 @@
 ghost use mathlib.Core.Path.{_≡_};
 ghost use Prim.Native.Nat.{_+_, _-_, _<_, _≤_};
 ghost use Rattle.rule.specs.Entry.{insert, delete, put};
-ghost use Rattle.lent.specs.Table.{relayPlaces, relayNumber, relayLimit, tabletPlaces, tabletNumber, tabletRelay};
+ghost use Rattle.tables.specs.Table.{relayPlaces, relayNumber, relayLimit, tabletPlaces, tabletNumber, tabletRelay};
 ghost use Rattle.meaning.specs.Meaning.{relaysIn, tabletsIn};
 ghost use Rattle.write.specs.Wrote.{WroteRelays, WroteTablets, Place, Climbs};
 ghost use Rattle.place.specs.Places.{SetBeside};
@@ -17,8 +17,8 @@ pub fn insert_relay(relays: &mut [u32], n: usize, at: usize, r: ring::RelayNumbe
 {
     let mut i = n;
     while at < i {
-        let number = lent::relay_number(relays, i - 1);
-        let beside = lent::relay_limit(relays, i - 1);
+        let number = tables::relay_number(relays, i - 1);
+        let beside = tables::relay_limit(relays, i - 1);
         place::set_relay(relays, i, number, beside);
         i -= 1;
     }
@@ -38,8 +38,8 @@ pub fn insert_tablet(
 {
     let mut j = m;
     while at < j {
-        let number = lent::tablet_number(tablets, j - 1);
-        let beside = lent::tablet_relay(tablets, j - 1);
+        let number = tables::tablet_number(tablets, j - 1);
+        let beside = tables::tablet_relay(tablets, j - 1);
         place::set_tablet(tablets, j, number, beside);
         j -= 1;
     }
@@ -56,8 +56,8 @@ pub fn delete_relay(relays: &mut [u32], n: usize, at: usize)
     let last = n - 1;
     let mut i = at;
     while i < last {
-        let number = lent::relay_number(relays, i + 1);
-        let beside = lent::relay_limit(relays, i + 1);
+        let number = tables::relay_number(relays, i + 1);
+        let beside = tables::relay_limit(relays, i + 1);
         place::set_relay(relays, i, number, beside);
         i += 1;
     }
@@ -72,8 +72,8 @@ pub fn delete_tablet(tablets: &mut [u32], m: usize, at: usize)
     let last = m - 1;
     let mut j = at;
     while j < last {
-        let number = lent::tablet_number(tablets, j + 1);
-        let beside = lent::tablet_relay(tablets, j + 1);
+        let number = tables::tablet_number(tablets, j + 1);
+        let beside = tables::tablet_relay(tablets, j + 1);
         place::set_tablet(tablets, j, number, beside);
         j += 1;
     }

@@ -1,7 +1,7 @@
 -- `answer::answer` meets its contract: four numbers and the moves, one behind the other. Assumes nothing.
 use mathlib.Core.Path.{ap}
 use Rattle.answer.specs.Text.{numberThen, replyText, movesText, answerText}
-use Rattle.text.proofs.Putting.{puts-text, puts-append}
+use Rattle.text.proofs.Puts.{puts-text, puts-append}
 use borrow.Author.Needs.{needs}
 use Rattle.answer.proofs.answer.Statement.{statement}
 use Rattle.answer.proofs.answer.Tie as tie

@@ -1,5 +1,5 @@
 -- `answer::echo` meets its contract. Assumes nothing.
-use Rattle.text.proofs.Putting.{puts-append}
+use Rattle.text.proofs.Puts.{puts-append}
 use borrow.Author.Needs.{needs}
 use Rattle.answer.proofs.echo.Statement.{statement}
 use Rattle.answer.proofs.echo.Tie as tie

@@ -8,7 +8,7 @@ use borrow.Author.Needs.{needs}
 use lib.ListN.{length, take, getD}
 use lib.Seq.{take-suc, take-all}
 use Rattle.text.specs.Puts.{Puts}
-use Rattle.text.proofs.Putting.{puts-nothing, puts-append, puts-length}
+use Rattle.text.proofs.Puts.{puts-nothing, puts-append, puts-length}
 use Rattle.answer.proofs.put_bytes.Statement.{statement}
 use Rattle.answer.proofs.put_bytes.Tie as tie
 

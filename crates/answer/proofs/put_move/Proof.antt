@@ -1,6 +1,6 @@
 -- `answer::put_move` meets its contract: `m ` and three numbers, one behind the other. Assumes nothing.
 use Rattle.answer.specs.Text.{moveText, moveTextAt}
-use Rattle.text.proofs.Putting.{puts-append}
+use Rattle.text.proofs.Puts.{puts-append}
 use borrow.Author.Needs.{needs}
 use Rattle.answer.proofs.put_move.Statement.{statement}
 use Rattle.answer.proofs.put_move.Tie as tie

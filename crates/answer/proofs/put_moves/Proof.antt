@@ -7,7 +7,7 @@ use native.Mathlib.Omega.{arith}
 use borrow.Author.Needs.{needs}
 use Rattle.text.specs.Puts.{Puts}
 use Rattle.answer.specs.Text.{moveTextAt, movesText}
-use Rattle.text.proofs.Putting.{puts-nothing, puts-text, puts-append, puts-within, puts-length}
+use Rattle.text.proofs.Puts.{puts-nothing, puts-text, puts-append, puts-within, puts-length}
 use Rattle.answer.proofs.put_moves.Statement.{statement}
 use Rattle.answer.proofs.put_moves.Tie as tie
 

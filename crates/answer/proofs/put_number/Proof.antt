@@ -2,8 +2,8 @@
 use mathlib.Core.Path.{_∙_}
 use native.Mathlib.Omega.{arith}
 use Rattle.answer.specs.Text.{numberThen}
-use Rattle.text.proofs.Putting.{puts-text, puts-append}
-use Rattle.answer.proofs.Spelling.{spelled}
+use Rattle.text.proofs.Puts.{puts-text, puts-append}
+use Rattle.answer.proofs.Digits.{spelled}
 use borrow.Author.Needs.{needs}
 use Rattle.answer.proofs.put_number.Statement.{statement}
 use Rattle.answer.proofs.put_number.Tie as tie

@@ -1,6 +1,6 @@
 -- `calls::set` meets its contract: the call, and its count. Assumes nothing.
 use borrow.Author.Needs.{needs}
-use Rattle.calls.proofs.Keeping.{keeps}
+use Rattle.calls.proofs.Kept.{keeps}
 use Rattle.calls.proofs.set.Statement.{statement}
 use Rattle.calls.proofs.set.Tie as tie
 

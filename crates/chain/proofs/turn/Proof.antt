@@ -5,7 +5,7 @@ use mathlib.Core.Path.{refl}
 use Prim.Native.Nat.{_-_}
 use native.Mathlib.Omega.{arith}
 use Rattle.slots.specs.Slots.{stepsTo}
-use Rattle.chain.proofs.Going.{
+use Rattle.chain.proofs.Turns.{
   Going,
   going-start,
   slot-small,

@@ -1,7 +1,7 @@
 -- `chain::visit` meets its contract: whoever gives way is noted, and else nothing changes.
 -- Assumes nothing.
 use mathlib.Core.Path.{refl, sym, _∙_}
-use Rattle.chain.proofs.Keeping.{way-some, visited-yes, visited-no}
+use Rattle.chain.proofs.Arrays.{way-some, visited-yes, visited-no}
 use borrow.Author.Needs.{needs}
 use Rattle.chain.proofs.visit.Statement.{statement}
 use Rattle.chain.proofs.visit.Tie as tie

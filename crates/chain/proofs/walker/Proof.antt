@@ -5,7 +5,7 @@ use mathlib.Core.List.{List}
 use Prim.Native.Nat.{ℕ, zero, suc}
 use native.Mathlib.Omega.{arith}
 use lib.ListN.{getD}
-use Rattle.lent.specs.Table.{tabletNumber}
+use Rattle.tables.specs.Table.{tabletNumber}
 use Rattle.chain.specs.Chain.{nameAt}
 use borrow.Author.Needs.{needs}
 use Rattle.chain.proofs.walker.Statement.{statement}

@@ -59,7 +59,7 @@ use Rattle.rule.proofs.Reply.Laws as Rp′
 use Rattle.rule.proofs.Tally as Ta
 use Rattle.rule.proofs.Tally.Laws as Ta′
 use Rattle.promise.specs.Promise.{Answers}
-use Rattle.look.specs.Promise.{lists}
+use Rattle.call_start.specs.Promise.{lists}
 use Rattle.station.specs.Promise.{attended}
 use Rattle.station.proofs.Lent.{lends-array, array-back}
 use Rattle.station.proofs.call as station

@@ -1,7 +1,7 @@
 -- `drill::calls` meets its contract: the list is the definition's, call by call. Assumes nothing.
 use mathlib.Core.Path.{refl}
 use Rattle.rule.specs.Drill.{drill, replies}
-use Rattle.runs.specs.Drilled.{drillCalls}
+use Rattle.histories.specs.Drilled.{drillCalls}
 use Rattle.drill.specs.Calls.{made}
 use Rattle.drill.proofs.calls.Statement.{statement}
 use Rattle.drill.proofs.calls.Tie as tie

@@ -4,10 +4,10 @@ use mathlib.Core.Bool.{true}
 use mathlib.Core.Path.{_≡_, refl, sym}
 use native.Mathlib.Omega.{arith}
 use Rattle.rule.specs.Refusals.{isDone}
-use Rattle.look.proofs.Refusing.{refused-answers}
+use Rattle.call_start.proofs.Refusals.{refused-answers}
 use Rattle.newcomer.specs.Newcomer.{Worked, Prepared}
-use Rattle.newcomer.proofs.Planning.{test-false, test-true}
-use Rattle.enrol.proofs.Committing.{place-still, enrolled-answers}
+use Rattle.newcomer.proofs.Prepared.{test-false, test-true}
+use Rattle.enrol.proofs.Written.{place-still, enrolled-answers}
 use borrow.Author.Needs.{needs}
 use Rattle.enrol.proofs.enrol.Statement.{statement}
 use Rattle.enrol.proofs.enrol.Tie as tie

@@ -1,6 +1,6 @@
 -- `enrol::seat_one` meets its contract: a move is listed and a relay written, each by its own function's.
 -- Assumes nothing.
-use Rattle.enrol.proofs.Seating.{sat-down}
+use Rattle.enrol.proofs.Seated.{sat-down}
 use borrow.Author.Needs.{needs}
 use Rattle.enrol.proofs.seat_one.Statement.{statement}
 use Rattle.enrol.proofs.seat_one.Tie as tie

@@ -4,7 +4,7 @@
 use Prim.Native.Nat.{ℕ, _+_, _-_, _≤_}
 use native.Mathlib.Omega.{arith}
 use Rattle.enrol.specs.Enrol.{OthersSeated}
-use Rattle.enrol.proofs.Seating.{climbs-still, seating-start, seating-more, places-still, list-length, sat-at, seated-all}
+use Rattle.enrol.proofs.Seated.{climbs-still, seating-start, seating-more, places-still, list-length, sat-at, seated-all}
 use borrow.Author.Needs.{needs}
 use Rattle.enrol.proofs.seat_others.Statement.{statement}
 use Rattle.enrol.proofs.seat_others.Tie as tie

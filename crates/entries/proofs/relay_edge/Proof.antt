@@ -2,7 +2,7 @@
 -- between them. Assumes nothing.
 use Prim.Native.Nat.{_-_}
 use native.Mathlib.Omega.{arith}
-use Rattle.lent.specs.Table.{relayPlaces, relayNumber}
+use Rattle.tables.specs.Table.{relayPlaces, relayNumber}
 use Rattle.entries.specs.Entries.{Edge}
 use Rattle.entries.proofs.Edge.{edge-start, edge-low, edge-high, edge-end}
 use Rattle.entries.proofs.relay_edge.Statement.{statement}

@@ -1,9 +1,9 @@
 -- `find::find` meets its contract. A look that is refused refuses the find, and so does a number that is zero or not there; past these the
 -- reply is the tablet's seat. Assumes nothing.
-use Rattle.look.proofs.Ways.{look-start, look-answers}
-use Rattle.seat.proofs.Passing.{start-slotted}
-use Rattle.seat.proofs.Standing.{missing-find, seat-refused}
-use Rattle.find.proofs.Finding.{find-found}
+use Rattle.call_start.proofs.Ways.{look-start, look-answers}
+use Rattle.seat.proofs.Slotted.{start-slotted}
+use Rattle.seat.proofs.Replies.{missing-find, seat-refused}
+use Rattle.find.proofs.Outcomes.{find-found}
 use borrow.Author.Needs.{needs}
 use Rattle.find.proofs.find.Statement.{statement}
 use Rattle.find.proofs.find.Tie as tie

@@ -1,6 +1,6 @@
 -- `holes::fill` meets its contract: nobody of the chain is the tablet that leaves, so it is the same whether it leaves first or last.
 -- Assumes nothing.
-use Rattle.holes.proofs.Sitting.{filled-climbs, filled-there, filled-from}
+use Rattle.holes.proofs.Seated.{filled-climbs, filled-there, filled-from}
 use borrow.Author.Needs.{needs}
 use Rattle.holes.proofs.fill.Statement.{statement}
 use Rattle.holes.proofs.fill.Tie as tie

@@ -4,7 +4,7 @@
 use mathlib.Core.Path.{refl}
 use Prim.Native.Nat.{_-_}
 use native.Mathlib.Omega.{arith}
-use Rattle.holes.proofs.Sweeping.{Swept, swept-few, sweep-start, sweep-on, sweep-end}
+use Rattle.holes.proofs.Sweeps.{Swept, swept-few, sweep-start, sweep-on, sweep-end}
 use Rattle.holes.proofs.holes.Statement.{statement}
 use Rattle.holes.proofs.holes.Tie as tie
 

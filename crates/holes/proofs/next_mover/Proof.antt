@@ -5,7 +5,7 @@ use Prim.Native.Nat.{ℕ}
 use lib.ListN.{getD}
 use Rattle.order.specs.Keys.{slotRelay}
 use Rattle.row.specs.Row.{slotRoom}
-use Rattle.holes.proofs.Sweeping.{next-at-once}
+use Rattle.holes.proofs.Sweeps.{next-at-once}
 use borrow.Author.Needs.{needs}
 use Rattle.holes.proofs.next_mover.Statement.{statement}
 use Rattle.holes.proofs.next_mover.Tie as tie

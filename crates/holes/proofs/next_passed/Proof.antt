@@ -4,7 +4,7 @@ use mathlib.Core.Path.{sym, _∙_}
 use Prim.Native.Nat.{_-_}
 use native.Mathlib.Omega.{arith}
 use Rattle.holes.specs.Holes.{passedAt}
-use Rattle.holes.proofs.Sweeping.{Seeking, seek-start, seek-on, seek-found, seek-end}
+use Rattle.holes.proofs.Sweeps.{Seeking, seek-start, seek-on, seek-found, seek-end}
 use Rattle.holes.proofs.next_passed.Statement.{statement}
 use Rattle.holes.proofs.next_passed.Tie as tie
 

@@ -2,7 +2,7 @@
 -- left is the next one's, and those to come sit where they sat. The measure is how many are to come. Assumes nothing.
 use Prim.Native.Nat.{_-_}
 use native.Mathlib.Omega.{arith}
-use Rattle.holes.proofs.Sitting.{Sitting, sit-start, sit-climbs, sit-there, sit-long, sit-on, sit-end}
+use Rattle.holes.proofs.Seated.{Sitting, sit-start, sit-climbs, sit-there, sit-long, sit-on, sit-end}
 use borrow.Author.Needs.{needs}
 use Rattle.holes.proofs.sit_down.Statement.{statement}
 use Rattle.holes.proofs.sit_down.Tie as tie

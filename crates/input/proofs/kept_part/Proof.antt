@@ -2,7 +2,7 @@
 use mathlib.Core.Path.{sym}
 use native.Mathlib.Omega.{arith}
 use lib.Seq.{take-all}
-use Rattle.input.proofs.Taking.{take-part}
+use Rattle.input.proofs.Takes.{take-part}
 use borrow.Author.Needs.{needs}
 use Rattle.input.proofs.kept_part.Statement.{statement}
 use Rattle.input.proofs.kept_part.Tie as tie

@@ -1,5 +1,5 @@
 -- `input::take_byte` meets its contract, for a newline and for any other byte. Assumes nothing.
-use Rattle.input.proofs.Taking.{takes-end, takes-kept}
+use Rattle.input.proofs.Takes.{takes-end, takes-kept}
 use borrow.Author.Needs.{needs}
 use Rattle.input.proofs.take_byte.Statement.{statement}
 use Rattle.input.proofs.take_byte.Tie as tie

@@ -6,9 +6,9 @@ use native.Mathlib.Omega.{arith}
 use borrow.Author.Tests.{not-true, not-false}
 use Rattle.rule.specs.Refusals.{isDone}
 use Rattle.newcomer.specs.Newcomer.{newcomerRefusal}
-use Rattle.look.specs.Start.{Start}
-use Rattle.look.proofs.Refusing.{start-rises, look-refused}
-use Rattle.newcomer.proofs.Planning.{
+use Rattle.call_start.specs.Start.{Start}
+use Rattle.call_start.proofs.Refusals.{start-rises, look-refused}
+use Rattle.newcomer.proofs.Prepared.{
   test-false,
   test-true,
   refused-plan,

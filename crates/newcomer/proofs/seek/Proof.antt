@@ -1,7 +1,7 @@
 -- `newcomer::seek` meets its contract: the home is what the newcomer comes to first, and the row leads on from there.
 -- Assumes nothing.
 use native.Mathlib.Omega.{arith}
-use Rattle.newcomer.proofs.Working.{seeks}
+use Rattle.newcomer.proofs.Outcomes.{seeks}
 use borrow.Author.Needs.{needs}
 use Rattle.newcomer.proofs.seek.Statement.{statement}
 use Rattle.newcomer.proofs.seek.Tie as tie

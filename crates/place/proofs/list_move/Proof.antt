@@ -3,7 +3,7 @@ use native.Mathlib.Numerals.{add-one, add-two}
 use native.Mathlib.Omega.{arith}
 use borrow.Author.Needs.{needs}
 use lib.ListN.{length-set}
-use Rattle.place.specs.Listing.{setMove}
+use Rattle.place.specs.MoveList.{setMove}
 use Rattle.place.proofs.list_move.Statement.{statement}
 use Rattle.place.proofs.list_move.Tie as tie
 

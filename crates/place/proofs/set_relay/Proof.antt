@@ -2,8 +2,8 @@
 use native.Mathlib.Omega.{arith}
 use borrow.Author.Needs.{needs}
 use lib.ListN.{length-set}
-use Rattle.lent.specs.Table.{relayPlaces, relayNumber, relayLimit}
-use Rattle.place.proofs.Setting.{place-set}
+use Rattle.tables.specs.Table.{relayPlaces, relayNumber, relayLimit}
+use Rattle.place.proofs.Sets.{place-set}
 use Rattle.place.proofs.set_relay.Statement.{statement}
 use Rattle.place.proofs.set_relay.Tie as tie
 

@@ -1,8 +1,8 @@
 -- `place::set_relay_limit` meets its contract: the second number of a place is no place's first, and no other place's second. Assumes nothing.
 use native.Mathlib.Omega.{arith}
 use borrow.Author.Needs.{needs}
-use Rattle.lent.specs.Table.{relayPlaces, relayNumber, relayLimit}
-use Rattle.place.proofs.Setting.{beside-set}
+use Rattle.tables.specs.Table.{relayPlaces, relayNumber, relayLimit}
+use Rattle.place.proofs.Sets.{beside-set}
 use Rattle.place.proofs.set_relay_limit.Statement.{statement}
 use Rattle.place.proofs.set_relay_limit.Tie as tie
 

@@ -1,8 +1,8 @@
 -- `place::set_tablet_relay` meets its contract: the second number of a place is no place's first, and no other place's second. Assumes nothing.
 use native.Mathlib.Omega.{arith}
 use borrow.Author.Needs.{needs}
-use Rattle.lent.specs.Table.{tabletPlaces, tabletNumber, tabletRelay}
-use Rattle.place.proofs.Setting.{beside-set}
+use Rattle.tables.specs.Table.{tabletPlaces, tabletNumber, tabletRelay}
+use Rattle.place.proofs.Sets.{beside-set}
 use Rattle.place.proofs.set_tablet_relay.Statement.{statement}
 use Rattle.place.proofs.set_tablet_relay.Tie as tie
 

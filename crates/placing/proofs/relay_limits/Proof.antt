@@ -1,9 +1,9 @@
 -- `placing::relay_limits` meets its contract. The invariant: the limits of the first i relays are loaded. Assumes nothing.
 use mathlib.Core.Path.{_≡_, refl}
 use Prim.Native.Nat.{_-_, _≤_}
-use Rattle.lent.specs.Table.{relayLimit}
-use Rattle.lent.specs.Placing.{array, relayLimits}
-use Rattle.lent.proofs.Loops.{at-end, array-more}
+use Rattle.tables.specs.Table.{relayLimit}
+use Rattle.tables.specs.Placement.{array, relayLimits}
+use Rattle.tables.proofs.Loops.{at-end, array-more}
 use native.Mathlib.Omega.{arith}
 use Rattle.placing.proofs.relay_limits.Statement.{statement}
 use Rattle.placing.proofs.relay_limits.Tie as tie

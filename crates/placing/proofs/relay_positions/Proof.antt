@@ -2,9 +2,9 @@
 use mathlib.Core.Path.{_≡_, refl, ap, _∙_}
 use Prim.Native.Nat.{_-_, _≤_}
 use Rattle.ring.specs.Scheme.{positions}
-use Rattle.lent.specs.Table.{relayNumber}
-use Rattle.lent.specs.Placing.{array, relayPositions}
-use Rattle.lent.proofs.Loops.{at-end, array-more}
+use Rattle.tables.specs.Table.{relayNumber}
+use Rattle.tables.specs.Placement.{array, relayPositions}
+use Rattle.tables.proofs.Loops.{at-end, array-more}
 use native.Mathlib.Omega.{arith}
 use Rattle.placing.proofs.relay_positions.Statement.{statement}
 use Rattle.placing.proofs.relay_positions.Tie as tie

@@ -2,7 +2,7 @@
 -- others are as they were. The measure is how many are left. Assumes nothing.
 use Prim.Native.Nat.{_-_, _≤_}
 use native.Mathlib.Omega.{arith}
-use Rattle.plan.proofs.Carrying.{Carrying, carrying-none, carrying-moves, carrying-more, carrying-end, carrying-list}
+use Rattle.plan.proofs.Carried.{Carrying, carrying-none, carrying-moves, carrying-more, carrying-end, carrying-list}
 use Rattle.plan.proofs.carry_out.Statement.{statement}
 use Rattle.plan.proofs.carry_out.Tie as tie
 

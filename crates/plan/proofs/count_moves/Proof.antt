@@ -3,9 +3,9 @@ use mathlib.Core.Path.{_≡_, refl}
 use Prim.Native.Nat.{_-_, _≤_}
 use native.Mathlib.Omega.{arith}
 use lib.ListN.{length}
-use Rattle.lent.proofs.Loops.{at-end}
+use Rattle.tables.proofs.Loops.{at-end}
 use Rattle.plan.specs.Changes.{changes, changesTo}
-use Rattle.plan.proofs.Changing.{count-more}
+use Rattle.plan.proofs.Changes.{count-more}
 use Rattle.plan.proofs.count_moves.Statement.{statement}
 use Rattle.plan.proofs.count_moves.Tie as tie
 

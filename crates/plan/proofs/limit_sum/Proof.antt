@@ -5,8 +5,8 @@ use Prim.Native.Nat.{_*_, _-_, _≤_}
 use native.Mathlib.Omega.{arith}
 use Rattle.ring.specs.Most.{mostLimit}
 use Rattle.rule.specs.Entry.{total}
-use Rattle.lent.proofs.Loops.{at-end}
-use Rattle.lent.specs.Table.{relayNumber, relayLimit}
+use Rattle.tables.proofs.Loops.{at-end}
+use Rattle.tables.specs.Table.{relayNumber, relayLimit}
 use Rattle.meaning.specs.Meaning.{places, relaysIn}
 use Rattle.meaning.proofs.More.{total-more}
 use Rattle.plan.proofs.limit_sum.Statement.{statement}

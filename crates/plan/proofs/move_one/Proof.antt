@@ -1,6 +1,6 @@
 -- `plan::move_one` meets its contract: the test compares the two relays, and where they differ the move is listed and made. Assumes nothing.
 use native.Mathlib.Omega.{arith}
-use Rattle.plan.proofs.Carrying.{move-room, moved-none, moved-made}
+use Rattle.plan.proofs.Carried.{move-room, moved-none, moved-made}
 use borrow.Author.Needs.{needs}
 use Rattle.plan.proofs.move_one.Statement.{statement}
 use Rattle.plan.proofs.move_one.Tie as tie

@@ -1,7 +1,7 @@
 -- `plan::moves_fit` meets its contract: no more tablets move than there are, and else they are counted. Assumes nothing.
 use mathlib.Core.Path.{ap}
 use lib.Dec.{leb}
-use Rattle.plan.proofs.Changing.{count-fits}
+use Rattle.plan.proofs.Changes.{count-fits}
 use Rattle.plan.proofs.moves_fit.Statement.{statement}
 use Rattle.plan.proofs.moves_fit.Tie as tie
 

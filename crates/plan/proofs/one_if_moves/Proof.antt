@@ -1,9 +1,9 @@
 -- `plan::one_if_moves` meets its contract: the test compares the two relays. Assumes nothing.
 use mathlib.Core.Path.{ap, _∙_}
 use native.Mathlib.Omega.{arith}
-use Rattle.lent.specs.Table.{relayNumber}
+use Rattle.tables.specs.Table.{relayNumber}
 use Rattle.plan.specs.Changes.{newRelay}
-use Rattle.plan.proofs.Changing.{picks-same, picks-other}
+use Rattle.plan.proofs.Changes.{picks-same, picks-other}
 use borrow.Author.Needs.{needs}
 use Rattle.plan.proofs.one_if_moves.Statement.{statement}
 use Rattle.plan.proofs.one_if_moves.Tie as tie

@@ -2,7 +2,7 @@
 use mathlib.Core.Path.{refl}
 use denote.Ref.{now}
 use native.Mathlib.Omega.{arith}
-use Rattle.plan.proofs.Planning.{limits-planned, list-planned, planned}
+use Rattle.plan.proofs.Plans.{limits-planned, list-planned, planned}
 use borrow.Author.Needs.{needs}
 use Rattle.plan.proofs.work_out.Statement.{statement}
 use Rattle.plan.proofs.work_out.Tie as tie

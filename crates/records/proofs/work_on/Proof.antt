@@ -2,8 +2,8 @@
 use mathlib.Core.Path.{refl}
 use borrow.Author.Needs.{needs}
 use denote.Ref.{now}
-use Rattle.calls.proofs.Keeping.{kept-answers}
-use Rattle.records.proofs.Working.{scratch-length, works}
+use Rattle.calls.proofs.Kept.{kept-answers}
+use Rattle.records.proofs.Works.{scratch-length, works}
 use Rattle.records.proofs.work_on.Statement.{statement}
 use Rattle.records.proofs.work_on.Tie as tie
 

@@ -6,8 +6,8 @@ use Prim.Native.Nat.{ℕ, _-_, _≤_}
 use denote.Ref.{now}
 use native.Mathlib.Omega.{arith}
 use Rattle.ring.specs.Scheme.{Positions}
-use Rattle.homes.specs.Homes.{Homes}
-use Rattle.refill.proofs.Filling.{Fills, filling-none, filling-more, filling-end, Turn, turn-takes, turn-below}
+use Rattle.ring_edit.specs.Homes.{Homes}
+use Rattle.refill.proofs.Refills.{Fills, filling-none, filling-more, filling-end, Turn, turn-takes, turn-below}
 use Rattle.refill.proofs.refill.Statement.{statement}
 use Rattle.refill.proofs.refill.Tie as tie
 

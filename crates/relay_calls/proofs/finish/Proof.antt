@@ -1,7 +1,7 @@
 -- `relay_calls::finish` meets its contract: the edit's refusal, the plan's refusal, or the plan carried out and the table put back. Assumes nothing.
 use mathlib.Core.Path.{refl}
 use native.Mathlib.Omega.{arith}
-use Rattle.relay_calls.proofs.Finishing.{edit-refused, edit-passed, edit-plans, edit-short, plan-refused, plan-carries, plan-count, plan-answers}
+use Rattle.relay_calls.proofs.Outcomes.{edit-refused, edit-passed, edit-plans, edit-short, plan-refused, plan-carries, plan-count, plan-answers}
 use borrow.Author.Needs.{needs}
 use Rattle.relay_calls.proofs.finish.Statement.{statement}
 use Rattle.relay_calls.proofs.finish.Tie as tie

@@ -2,7 +2,7 @@
 use Prim.Native.Nat.{_-_}
 use native.Mathlib.Omega.{arith}
 use lib.ListN.{length, getD, length-set}
-use Rattle.relay_calls.proofs.Replacing.{Replacing, replacing-none, replacing-more, replacing-end}
+use Rattle.relay_calls.proofs.Replaced.{Replacing, replacing-none, replacing-more, replacing-end}
 use Rattle.relay_calls.proofs.put_back.Statement.{statement}
 use Rattle.relay_calls.proofs.put_back.Tie as tie
 

@@ -3,7 +3,7 @@
 use Prim.Native.Nat.{_-_, _≤_}
 use native.Mathlib.Omega.{arith}
 use lib.ListN.{length}
-use Rattle.relay_edit.proofs.Copying.{Copying, copying-none, copying-more, copying-end}
+use Rattle.relay_edit.proofs.Copies.{Copying, copying-none, copying-more, copying-end}
 use Rattle.relay_edit.proofs.copied.Statement.{statement}
 use Rattle.relay_edit.proofs.copied.Tie as tie
 

@@ -2,8 +2,8 @@
 use mathlib.Core.Path.{refl}
 use native.Mathlib.Omega.{arith}
 use Rattle.relay_edit.specs.Found.{Stands}
-use Rattle.relay_edit.proofs.Owning.{stands-few, stands-short}
-use Rattle.relay_edit.proofs.Editing.{add-about, found-refused, found-stands, add-refused, add-fits, add-asks, add-passed}
+use Rattle.relay_edit.proofs.OwnTable.{stands-few, stands-short}
+use Rattle.relay_edit.proofs.Edits.{add-about, found-refused, found-stands, add-refused, add-fits, add-asks, add-passed}
 use borrow.Author.Needs.{needs}
 use Rattle.relay_edit.proofs.edit_add.Statement.{statement}
 use Rattle.relay_edit.proofs.edit_add.Tie as tie

@@ -2,9 +2,9 @@
 use mathlib.Core.Path.{refl}
 use native.Mathlib.Omega.{arith}
 use Rattle.relay_edit.specs.Found.{Stands}
-use Rattle.relay_edit.proofs.Owning.{stands-short}
-use Rattle.relay_edit.proofs.Homing.{take-asks}
-use Rattle.relay_edit.proofs.Editing.{remove-about, found-refused, found-stands, remove-refused, remove-fits, remove-passed}
+use Rattle.relay_edit.proofs.OwnTable.{stands-short}
+use Rattle.relay_edit.proofs.Homes.{take-asks}
+use Rattle.relay_edit.proofs.Edits.{remove-about, found-refused, found-stands, remove-refused, remove-fits, remove-passed}
 use borrow.Author.Needs.{needs}
 use Rattle.relay_edit.proofs.edit_remove.Statement.{statement}
 use Rattle.relay_edit.proofs.edit_remove.Tie as tie

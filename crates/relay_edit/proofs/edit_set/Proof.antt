@@ -1,8 +1,8 @@
 -- `relay_edit::edit_set` meets its contract: the first refusal that applies, and past them the relay given its limit. Assumes nothing.
 use mathlib.Core.Path.{refl}
 use Rattle.relay_edit.specs.Found.{Stands}
-use Rattle.relay_edit.proofs.Owning.{stands-short}
-use Rattle.relay_edit.proofs.Editing.{set-about, found-refused, found-stands, set-refused, set-fits, set-passed}
+use Rattle.relay_edit.proofs.OwnTable.{stands-short}
+use Rattle.relay_edit.proofs.Edits.{set-about, found-refused, found-stands, set-refused, set-fits, set-passed}
 use borrow.Author.Needs.{needs}
 use Rattle.relay_edit.proofs.edit_set.Statement.{statement}
 use Rattle.relay_edit.proofs.edit_set.Tie as tie

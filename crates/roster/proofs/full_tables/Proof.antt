@@ -2,7 +2,7 @@
 use mathlib.Core.Path.{sym, _∙_}
 use borrow.Author.Needs.{needs}
 use borrow.Author.Tests.{not-true}
-use Rattle.look.proofs.Ways.{look-start}
+use Rattle.call_start.proofs.Ways.{look-start}
 use Rattle.roster.proofs.Contents.{full-refused, full-relays, full-tablets}
 use Rattle.roster.proofs.full_tables.Statement.{statement}
 use Rattle.roster.proofs.full_tables.Tie as tie

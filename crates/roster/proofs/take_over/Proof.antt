@@ -1,7 +1,7 @@
 -- `roster::take_over` meets its contract: scratch holds the two blocks, and the lent tables are written where these are full tables.
 -- Assumes nothing.
 use borrow.Author.Needs.{needs}
-use Rattle.roster.proofs.Taking.{taken-not, taken-all}
+use Rattle.roster.proofs.TakenOver.{taken-not, taken-all}
 use Rattle.roster.proofs.take_over.Statement.{statement}
 use Rattle.roster.proofs.take_over.Tie as tie
 

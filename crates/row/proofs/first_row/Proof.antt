@@ -5,7 +5,7 @@ use Prim.Native.Nat.{_≤_}
 use lib.ListN.{replicate}
 use Rattle.ring.specs.Most.{mostRelays}
 use Rattle.row.specs.Row.{Leads, Row}
-use Rattle.row.proofs.Leading.{leads-from, row-start, row-more, row-end}
+use Rattle.row.proofs.Leads.{leads-from, row-start, row-more, row-end}
 use native.Mathlib.Omega.{arith}
 use Rattle.row.proofs.first_row.Statement.{statement}
 use Rattle.row.proofs.first_row.Tie as tie

@@ -1,6 +1,6 @@
 -- `row::lowest` meets its contract. The invariant: the first k slots have no room. Assumes nothing.
 use Prim.Native.Nat.{_-_}
-use Rattle.row.proofs.Leading.{Emptied, emptied-none, emptied-more, leads-none, leads-lowest}
+use Rattle.row.proofs.Leads.{Emptied, emptied-none, emptied-more, leads-none, leads-lowest}
 use native.Mathlib.Omega.{arith}
 use Rattle.row.proofs.lowest.Statement.{statement}
 use Rattle.row.proofs.lowest.Tie as tie

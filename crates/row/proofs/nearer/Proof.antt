@@ -1,6 +1,6 @@
 -- `row::nearer` meets its contract, as slot k has room or none. Assumes nothing.
 use native.Mathlib.Omega.{arith}
-use Rattle.row.proofs.Leading.{leads-here, leads-on}
+use Rattle.row.proofs.Leads.{leads-here, leads-on}
 use borrow.Author.Needs.{needs}
 use Rattle.row.proofs.nearer.Statement.{statement}
 use Rattle.row.proofs.nearer.Tie as tie

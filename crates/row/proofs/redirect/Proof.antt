@@ -6,7 +6,7 @@ use lib.Dec.{eqb}
 use lib.ListN.{getD}
 use Rattle.ring.specs.Most.{mostRelays}
 use Rattle.row.specs.Row.{Redirected}
-use Rattle.row.proofs.Shutting.{redirected-none, redirected-more, redirected-end}
+use Rattle.row.proofs.Shut.{redirected-none, redirected-more, redirected-end}
 use native.Mathlib.Omega.{arith}
 use Rattle.row.proofs.redirect.Statement.{statement}
 use Rattle.row.proofs.redirect.Tie as tie

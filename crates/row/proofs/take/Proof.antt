@@ -6,9 +6,9 @@ use Prim.Native.Nat.{ℕ, _-_}
 use denote.Ref.{now}
 use native.Mathlib.Omega.{arith}
 use lib.ListN.{getD, set}
-use Rattle.lent.specs.Placing.{roomLess}
+use Rattle.tables.specs.Placement.{roomLess}
 use Rattle.row.specs.Row.{slotRoom}
-use Rattle.row.proofs.Shutting.{row-keeps, row-shut}
+use Rattle.row.proofs.Shut.{row-keeps, row-shut}
 use borrow.Author.Needs.{needs}
 use Rattle.row.proofs.take.Statement.{statement}
 use Rattle.row.proofs.take.Tie as tie

@@ -4,8 +4,8 @@ use native.Mathlib.Omega.{arith}
 use borrow.Author.Tests.{not-true, not-false}
 use Rattle.ring.proofs.Tests.{true-false}
 use Rattle.slots.proofs.Steps.{steps-inside}
-use Rattle.spot.specs.Spot.{missing}
-use Rattle.spot.proofs.There.{spot-is}
+use Rattle.lookup.specs.Spot.{missing}
+use Rattle.lookup.proofs.There.{spot-is}
 use borrow.Author.Needs.{needs}
 use Rattle.seat.proofs.seat_of.Statement.{statement}
 use Rattle.seat.proofs.seat_of.Tie as tie

@@ -1,7 +1,7 @@
 -- `stage::first_line` meets its contract, for a line that names a scheme and for one that names none. Assumes nothing.
 use mathlib.Core.Path.{sym, _∙_}
 use Rattle.stage.specs.Stage.{first}
-use Rattle.stage.proofs.Saying.{says-text}
+use Rattle.stage.proofs.Says.{says-text}
 use borrow.Author.Needs.{needs}
 use Rattle.stage.proofs.first_line.Statement.{statement}
 use Rattle.stage.proofs.first_line.Tie as tie

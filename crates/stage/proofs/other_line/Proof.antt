@@ -1,6 +1,6 @@
 -- `stage::other_line` meets its contract: `?` is echoed. Assumes nothing.
 use Rattle.stage.specs.Stage.{other}
-use Rattle.stage.proofs.Saying.{says-text}
+use Rattle.stage.proofs.Says.{says-text}
 use borrow.Author.Needs.{needs}
 use Rattle.stage.proofs.other_line.Statement.{statement}
 use Rattle.stage.proofs.other_line.Tie as tie

@@ -58,10 +58,10 @@ use Rattle.rule.proofs.Move as Mv
 use Rattle.rule.proofs.Reply as Rp
 use Rattle.rule.proofs.Reply.Laws as Rp′
 use Rattle.rule.proofs.Tally as Ta
-use Rattle.records.specs.Working.{Works}
-use Rattle.station.specs.Handing.{handed}
+use Rattle.records.specs.Works.{Works}
+use Rattle.station.specs.Handed.{handed}
 use Rattle.station.proofs.Lent.{big-lit, zeros-are, array-in, lends-array, array-back, room-back}
-use Rattle.station.proofs.Attending.{attends}
+use Rattle.station.proofs.Attends.{attends}
 use Rattle.records.proofs.work_on as work
 use Rattle.records.proofs.work_on.Symbol as work-def
 use Rattle.records.proofs.work_on.Symbol.{name as #records·work-on}

@@ -52,7 +52,7 @@ use denote.Triple.Walked.{says, needs, Stays, stay-slice, stay-none-ref, stay-no
 use denote.Exit.{yes}
 use Rattle.rule.specs.declared.Move.{Move}
 use Rattle.records.specs.Record.{moveAt}
-use Rattle.station.specs.Handing.{handed}
+use Rattle.station.specs.Handed.{handed}
 use Rattle.station.proofs.Records.{length-handed}
 use Rattle.rule.proofs.Move as T
 use Rattle.rule.proofs.Move.Laws as T′

@@ -1,11 +1,11 @@
 -- `stretch::bounds` meets its contract. At each way out what was found says which case of the definition holds: the look is refused, the relay is
 -- not there, the first numbers are others, or none of these. Assumes nothing.
 use borrow.Author.Needs.{needs}
-use Rattle.look.proofs.Ways.{look-start}
-use Rattle.look.proofs.Refusing.{start-rises}
-use Rattle.loads.proofs.Housing.{start-housed}
-use Rattle.stretch.proofs.Standing.{at-roomed}
-use Rattle.stretch.proofs.Stretching.{look-bounds, absent-bounds, other-bounds, found-bounds}
+use Rattle.call_start.proofs.Ways.{look-start}
+use Rattle.call_start.proofs.Refusals.{start-rises}
+use Rattle.loads.proofs.Housed.{start-housed}
+use Rattle.stretch.proofs.There.{at-roomed}
+use Rattle.stretch.proofs.Outcomes.{look-bounds, absent-bounds, other-bounds, found-bounds}
 use Rattle.stretch.proofs.bounds.Statement.{statement}
 use Rattle.stretch.proofs.bounds.Tie as tie
 

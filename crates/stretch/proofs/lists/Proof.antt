@@ -4,9 +4,9 @@ use mathlib.Core.Path.{refl}
 use Prim.Native.Nat.{_-_, _≤_, _<_}
 use native.Mathlib.Omega.{arith}
 use lib.ListN.{getD}
-use Rattle.loads.proofs.Starting.{housed-roomed}
-use Rattle.sheet.proofs.Pointing.{points-place, points-inside}
-use Rattle.stretch.proofs.Comparing.{Lists, lists-short, lists-start, lists-more, lists-not, lists-end}
+use Rattle.loads.proofs.Starts.{housed-roomed}
+use Rattle.sheet.proofs.NextIndices.{points-place, points-inside}
+use Rattle.stretch.proofs.Compared.{Lists, lists-short, lists-start, lists-more, lists-not, lists-end}
 use Rattle.stretch.proofs.lists.Statement.{statement}
 use Rattle.stretch.proofs.lists.Tie as tie
 

@@ -11,10 +11,10 @@ use lib.ListN.{getD}
 use Rattle.ring.specs.Most.{mostTablets}
 use Rattle.ring.proofs.Tests.{and-left}
 use Rattle.ring.specs.Scheme.{positions}
-use Rattle.lent.specs.Table.{tabletNumber}
-use Rattle.lent.specs.Shape.{all}
-use Rattle.lent.specs.Placing.{placedAt, placed}
-use Rattle.lent.proofs.Loops.{at-end, all-more, all-false}
+use Rattle.tables.specs.Table.{tabletNumber}
+use Rattle.tables.specs.Shape.{all}
+use Rattle.tables.specs.Placement.{placedAt, placed}
+use Rattle.tables.proofs.Loops.{at-end, all-more, all-false}
 use Rattle.home.specs.Home.{keyAt, Begins}
 use Rattle.home.proofs.Walk.{begins-none, home-at}
 use Rattle.survey.specs.Seats.{Surveyed}

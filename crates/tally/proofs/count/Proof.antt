@@ -3,7 +3,7 @@ use native.Mathlib.Omega.{arith}
 use borrow.Author.Needs.{needs}
 use lib.ListN.{length-set}
 use Rattle.tally.specs.Counted.{tallyOf, counts}
-use Rattle.tally.proofs.Counting.{tallied-four, tallied-other}
+use Rattle.tally.proofs.Counts.{tallied-four, tallied-other}
 use Rattle.tally.proofs.count.Statement.{statement}
 use Rattle.tally.proofs.count.Tie as tie
 

@@ -2,7 +2,7 @@
 use mathlib.Core.Path.{ap, _∙_}
 use borrow.Author.Needs.{needs}
 use Rattle.rule.specs.Tally.{more}
-use Rattle.tally.proofs.Counting.{counted-done, counted-refused}
+use Rattle.tally.proofs.Counts.{counted-done, counted-refused}
 use Rattle.tally.proofs.counted.Statement.{statement}
 use Rattle.tally.proofs.counted.Tie as tie
 

@@ -1,6 +1,6 @@
 -- `text::put_byte` meets its contract. Assumes nothing.
 use borrow.Author.Needs.{needs}
-use Rattle.text.proofs.Putting.{puts-none}
+use Rattle.text.proofs.Puts.{puts-none}
 use Rattle.text.proofs.put_byte.Statement.{statement}
 use Rattle.text.proofs.put_byte.Tie as tie
 

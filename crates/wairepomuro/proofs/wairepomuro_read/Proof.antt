@@ -1,6 +1,6 @@
 -- `wairepomuro::wairepomuro_read` meets its contract: the promise of the reading, its refusal as a number. Assumes nothing.
 use borrow.Author.Needs.{needs}
-use Rattle.wairepomuro.proofs.Serving.{serves-reading}
+use Rattle.wairepomuro.proofs.Served.{serves-reading}
 use Rattle.wairepomuro.proofs.wairepomuro_read.Statement.{statement}
 use Rattle.wairepomuro.proofs.wairepomuro_read.Tie as tie
 

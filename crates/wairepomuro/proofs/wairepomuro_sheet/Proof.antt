@@ -1,6 +1,6 @@
 -- `wairepomuro::wairepomuro_sheet` meets its contract: the promise of the sheet, its refusal as a number. Assumes nothing.
 use borrow.Author.Needs.{needs}
-use Rattle.wairepomuro.proofs.Serving.{serves-sheet}
+use Rattle.wairepomuro.proofs.Served.{serves-sheet}
 use Rattle.wairepomuro.proofs.wairepomuro_sheet.Statement.{statement}
 use Rattle.wairepomuro.proofs.wairepomuro_sheet.Tie as tie
 

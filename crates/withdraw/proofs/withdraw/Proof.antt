@@ -1,11 +1,11 @@
 -- `withdraw::withdraw` meets its contract. A look that is refused refuses the withdrawal, and so do a number that is zero or not there and a
 -- move list that is too short; past these those who fill the holes have sat down, and the tablet is taken out. Assumes nothing.
 use native.Mathlib.Omega.{arith}
-use Rattle.look.proofs.Ways.{look-start, look-answers}
-use Rattle.seat.proofs.Passing.{start-slotted}
-use Rattle.seat.proofs.Standing.{missing-withdraw, seat-refused}
+use Rattle.call_start.proofs.Ways.{look-start, look-answers}
+use Rattle.seat.proofs.Slotted.{start-slotted}
+use Rattle.seat.proofs.Replies.{missing-withdraw, seat-refused}
 use Rattle.withdraw.proofs.Known.{start-sweeps}
-use Rattle.withdraw.proofs.Withdrawing.{stands, withdraw-short, withdraw-fillers, withdraw-done}
+use Rattle.withdraw.proofs.Outcomes.{stands, withdraw-short, withdraw-fillers, withdraw-done}
 use borrow.Author.Needs.{needs}
 use Rattle.withdraw.proofs.withdraw.Statement.{statement}
 use Rattle.withdraw.proofs.withdraw.Tie as tie

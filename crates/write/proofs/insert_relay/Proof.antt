@@ -6,7 +6,7 @@ use native.Mathlib.Nat.{le-refl}
 use native.Mathlib.Omega.{arith}
 use lib.ListN.{length}
 use Rattle.rule.specs.Entry.{entry}
-use Rattle.lent.specs.Table.{relayPlaces}
+use Rattle.tables.specs.Table.{relayPlaces}
 use Rattle.write.proofs.Shifts.{Raised, raised-start, raised-next, raised-end}
 use Rattle.write.proofs.Written.{relayAt, set-changed, wrote-relays}
 use Rattle.write.proofs.insert_relay.Statement.{statement}

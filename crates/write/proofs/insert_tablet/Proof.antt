@@ -6,7 +6,7 @@ use native.Mathlib.Nat.{le-refl}
 use native.Mathlib.Omega.{arith}
 use lib.ListN.{length}
 use Rattle.rule.specs.Entry.{entry}
-use Rattle.lent.specs.Table.{tabletPlaces}
+use Rattle.tables.specs.Table.{tabletPlaces}
 use Rattle.write.proofs.Shifts.{Raised, raised-start, raised-next, raised-end}
 use Rattle.write.proofs.Written.{tabletAt, set-changed, wrote-tablets}
 use Rattle.write.proofs.insert_tablet.Statement.{statement}

@@ -1,6 +1,6 @@
 -- `entries::shape::entry_right` meets its contract, test by test. Assumes nothing.
 use borrow.Author.Tests.{lt-ltb, le-ltb}
-use Rattle.lent.specs.Shape.{entryRight}
+use Rattle.tables.specs.Shape.{entryRight}
 use Rattle.entries.proofs.shape.entry_right.Statement.{statement}
 use Rattle.entries.proofs.shape.entry_right.Tie as tie
 

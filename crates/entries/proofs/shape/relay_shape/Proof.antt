@@ -5,8 +5,8 @@ use denote.Ref.{now}
 use borrow.Author.Tests.{not-true, not-false, lt-leb, le-leb}
 use native.Mathlib.Omega.{arith}
 use Prim.Native.Nat.{_≤_, _<_}
-use Rattle.lent.specs.Table.{relayPlaces}
-use Rattle.lent.specs.Shape.{shape, relayFits, relayShape}
+use Rattle.tables.specs.Table.{relayPlaces}
+use Rattle.tables.specs.Shape.{shape, relayFits, relayShape}
 use Rattle.entries.proofs.shape.relay_shape.Statement.{statement}
 use Rattle.entries.proofs.shape.relay_shape.Tie as tie
 

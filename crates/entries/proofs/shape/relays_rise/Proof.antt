@@ -3,10 +3,10 @@
 use mathlib.Core.Path.{_≡_, refl}
 use Prim.Native.Nat.{_-_, _≤_}
 use Rattle.ring.specs.Most.{mostLimit}
-use Rattle.lent.specs.Table.{relayNumber, relayLimit}
-use Rattle.lent.specs.Shape.{all, previous, entryAt}
-use Rattle.lent.proofs.Loops.{at-end}
-use Rattle.lent.proofs.Shaped.{previous-more, entry-more}
+use Rattle.tables.specs.Table.{relayNumber, relayLimit}
+use Rattle.tables.specs.Shape.{all, previous, entryAt}
+use Rattle.tables.proofs.Loops.{at-end}
+use Rattle.tables.proofs.Shaped.{previous-more, entry-more}
 use native.Mathlib.Omega.{arith}
 use Rattle.entries.proofs.shape.relays_rise.Statement.{statement}
 use Rattle.entries.proofs.shape.relays_rise.Tie as tie

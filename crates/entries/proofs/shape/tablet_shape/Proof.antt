@@ -5,8 +5,8 @@ use denote.Ref.{now}
 use borrow.Author.Tests.{not-true, not-false, lt-leb, le-leb}
 use native.Mathlib.Omega.{arith}
 use Prim.Native.Nat.{_≤_, _<_}
-use Rattle.lent.specs.Table.{tabletPlaces}
-use Rattle.lent.specs.Shape.{shape, tabletFits, tabletShape}
+use Rattle.tables.specs.Table.{tabletPlaces}
+use Rattle.tables.specs.Shape.{shape, tabletFits, tabletShape}
 use Rattle.entries.proofs.shape.tablet_shape.Statement.{statement}
 use Rattle.entries.proofs.shape.tablet_shape.Tie as tie
 

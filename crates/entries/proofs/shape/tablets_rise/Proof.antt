@@ -3,10 +3,10 @@
 use mathlib.Core.Path.{_≡_, refl}
 use Prim.Native.Nat.{_-_, _≤_}
 use Rattle.ring.specs.Most.{topNumber}
-use Rattle.lent.specs.Table.{tabletNumber, tabletRelay}
-use Rattle.lent.specs.Shape.{all, previous, entryAt}
-use Rattle.lent.proofs.Loops.{at-end}
-use Rattle.lent.proofs.Shaped.{previous-more, entry-more}
+use Rattle.tables.specs.Table.{tabletNumber, tabletRelay}
+use Rattle.tables.specs.Shape.{all, previous, entryAt}
+use Rattle.tables.proofs.Loops.{at-end}
+use Rattle.tables.proofs.Shaped.{previous-more, entry-more}
 use native.Mathlib.Omega.{arith}
 use Rattle.entries.proofs.shape.tablets_rise.Statement.{statement}
 use Rattle.entries.proofs.shape.tablets_rise.Tie as tie

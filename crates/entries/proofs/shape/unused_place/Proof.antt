@@ -1,6 +1,6 @@
 -- `entries::shape::unused_place` meets its contract, test by test. Assumes nothing.
 use borrow.Author.Tests.{eq-eqb, ne-eqb}
-use Rattle.lent.specs.Shape.{unused}
+use Rattle.tables.specs.Shape.{unused}
 use Rattle.entries.proofs.shape.unused_place.Statement.{statement}
 use Rattle.entries.proofs.shape.unused_place.Tie as tie
 

@@ -2,7 +2,7 @@
 use mathlib.Core.Path.{refl, sym, _∙_}
 use borrow.Author.Tests.{not-true, not-false}
 use Rattle.ring.proofs.Tests.{true-false}
-use Rattle.look.proofs.Refusing.{start-rises}
+use Rattle.call_start.proofs.Refusals.{start-rises}
 use borrow.Author.Needs.{needs}
 use Rattle.relay_edit.proofs.found.find_relay.Statement.{statement}
 use Rattle.relay_edit.proofs.found.find_relay.Tie as tie

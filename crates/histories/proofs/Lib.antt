@@ -1,0 +1,10 @@
+pub mod Again
+pub mod Rooms
+pub mod Kept
+pub mod Rosters
+pub mod Runs
+pub mod Free
+pub mod Drilled
+pub mod Shells
+pub mod Pairs
+pub mod Demands

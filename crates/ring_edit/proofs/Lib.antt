@@ -1,0 +1,8 @@
+pub mod Skips
+pub mod Lines
+pub mod Less
+pub mod More
+pub mod Ahead
+pub mod Further
+pub mod Around
+pub mod Shifts
