@@ -33,7 +33,12 @@ digits-by (suc more) zero n f h = rw (lt-ltb n 10 (f .1), last-digit n)
 digits-by (suc more) (suc j) n f h =
     let w : 10 ^ suc j ≤ n = least-of n j f in
     let g : Fewest 10 1 (n / 10) (suc j) = fewest-before n j f in
-    rw (le-ltb n 10 (omega (arith, w, pow-suc 10 j, one-le-pow j 10 (omega arith))), last-digit n, digits-by more j (n / 10) g (omega arith))
+    rw (
+      le-ltb n 10 (omega (arith, w, pow-suc 10 j, one-le-pow j 10 (omega arith))),
+      last-digit n,
+      digits-by more j
+          (n / 10) g (omega arith),
+    )
 
 -- eleven digits are past 4294967295
 at-most-ten : (n j : ℕ) → n < 4294967296 → Fewest 10 1 n (suc (suc j)) → suc j ≤ 9

@@ -31,7 +31,8 @@ unfolding replyText
 reply-room r =
     omega (
       arith,
-      join-room (numberThen (numberOf (r .refusal)) 32) (numberThen (r .relay .0) 32) (numberThen (r .passed) 32) (numberThen (r .moves) 10),
+      join-room (numberThen (numberOf (r .refusal)) 32) (numberThen (r .relay .0) 32) (numberThen (r .passed) 32)
+          (numberThen (r .moves) 10),
       number-room (numberOf (r .refusal)) 32,
       number-room (r .relay .0) 32,
       number-room (r .passed) 32,

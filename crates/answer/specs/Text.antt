@@ -26,7 +26,9 @@ numberThen n behind = numberText n ++ (behind ∷ [])
 -- ---- lines
 
 unfoldable pub replyText : Reply → List ℕ
-replyText r = numberThen (numberOf (r .refusal)) 32 ++ (numberThen (r .relay .0) 32 ++ (numberThen (r .passed) 32 ++ numberThen (r .moves) 10))
+replyText r =
+    numberThen (numberOf (r .refusal)) 32 ++ (numberThen (r .relay .0) 32
+    ++ (numberThen (r .passed) 32 ++ numberThen (r .moves) 10))
 
 unfoldable pub moveText : ℕ → ℕ → ℕ → List ℕ
 moveText tablet old new = (109 ∷ 32 ∷ []) ++ (numberThen tablet 32 ++ (numberThen old 32 ++ numberThen new 10))

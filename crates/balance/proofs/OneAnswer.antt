@@ -34,6 +34,7 @@ unfolding balance balancedLimit roundedUp
 balance-none p q relays =
     split (isDone (balanceRefusal p q 0 relays))
     (λ d.
-    let z : (p * 0 + (q * relays - 1)) / (q * relays) ≡ 0 = div-eq-of-lt (omega (arith, parts-some (in-range p q 0 relays d))) in
+    let z : (p * 0 + (q * relays - 1)) / (q * relays)
+    ≡ 0 = div-eq-of-lt (omega (arith, parts-some (in-range p q 0 relays d))) in
     rw (d, z) (omega arith))
     (λ d. rw d)

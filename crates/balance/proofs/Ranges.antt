@@ -76,11 +76,13 @@ module _ (p q tablets relays : ℕ) where
     pub fine : not done ≡ false → isDone (balanceRefusal p q tablets relays) ≡ true
     fine h = ap isDone (sym e) ∙ sym d ∙ not-false done h
 
-    pub balances-refused : not done ≡ true → {reply : Reply} → reply ≡ bareReply r → Balances (balance p q tablets relays) (record { reply = reply; limit = 0 })
+    pub balances-refused : not done ≡ true → {reply : Reply} → reply ≡ bareReply r
+        → Balances (balance p q tablets relays) (record { reply = reply; limit = 0 })
     unfolding balance
     balances-refused h a = record { reply = a ∙ ap bareReply e; limit = rw (← e, ← d, not-true done h) }
 
-    pub balances-done : not done ≡ false → {limit : ℕ} → limit ≡ balancedLimit p q tablets relays → {reply : Reply} → reply ≡ bareReply r
+    pub balances-done : not done ≡ false → {limit : ℕ} → limit ≡ balancedLimit p q tablets relays → {reply : Reply}
+        → reply ≡ bareReply r
         → Balances (balance p q tablets relays) (record { reply = reply; limit = limit })
     unfolding balance
     balances-done h l a = record { reply = a ∙ ap bareReply e; limit = l ∙ rw (fine h) }

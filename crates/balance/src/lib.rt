@@ -53,7 +53,8 @@ fn some_zero(p: u32, q: u32, relays: u32) -> bool
 
 // Is a number out of range?
 fn some_beyond(p: u32, q: u32, tablets: u32, relays: u32) -> bool
-    ensures { λ r. ⌜ r ≡ (ltb 1000 p || (ltb 1000 q || (ltb p q || (ltb mostTablets tablets || ltb mostRelays relays)))) ⌝ }
+    ensures { λ r. ⌜ r ≡ (ltb 1000 p || (ltb 1000 q
+        || (ltb p q || (ltb mostTablets tablets || ltb mostRelays relays)))) ⌝ }
 {
     either(
         MOST_SHARE < p,

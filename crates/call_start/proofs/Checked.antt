@@ -48,7 +48,8 @@ module _ (s : ℕ) (rs ts : List ℕ) where
 
   -- ---- the first look
 
-  pub barred-first : (f : First) (r : Refusal) → isDone r ≡ false → (f .refusal ≡ r) × (f .n ≡ 0) × (f .m ≡ 0) → tablesRefusal s rs ts ≡ r → FirstLook s rs ts f
+  pub barred-first : (f : First) (r : Refusal) → isDone r ≡ false → (f .refusal ≡ r) × (f .n ≡ 0) × (f .m ≡ 0)
+      → tablesRefusal s rs ts ≡ r → FirstLook s rs ts f
   barred-first f r n e h = record {
     relaysFit = record { few = omega (arith, e .1); there = omega (arith, e .1) };
     tabletsFit = record { few = omega (arith, e .2); there = omega (arith, e .2) };
@@ -56,7 +57,8 @@ module _ (s : ℕ) (rs ts : List ℕ) where
     passed = λ d. absurd (true-false (sym d ∙ ap isDone (e .0) ∙ n));
   }
 
-  pub passed-first : {k fine : Bool} {n m : ℕ} → k ≡ known s → not k ≡ false → ShapesOf rs ts fine n m → not fine ≡ false → FirstLook s rs ts (record { refusal = Done; n = n; m = m })
+  pub passed-first : {k fine : Bool} {n m : ℕ} → k ≡ known s → not k ≡ false → ShapesOf rs ts fine n m
+      → not fine ≡ false → FirstLook s rs ts (record { refusal = Done; n = n; m = m })
   unfolding isDone
   passed-first {k} {fine} e h o t = record {
     relaysFit = o .relaysFit;
@@ -83,8 +85,10 @@ module _ (s : ℕ) (rs ts : List ℕ) where
   unfolding placed all
   none-placed n = refl
 
-  module _ {f : First} {v : Survey} {r : Refusal} (o : FirstLook s rs ts f) (e : v .right ≡ placed (positions s) rs ts (f .n) (f .m))
-      (g : v .right ≡ true → Surveyed (positions s) rs ts (f .n) (f .m) (v .keys) (v .room) (v .next) (v .last) (v .home) (v .slot)) (er : r ≡ verdict (f .refusal) (v .right))
+  module _ {f : First} {v : Survey} {r : Refusal} (o : FirstLook s rs ts f)
+      (e : v .right ≡ placed (positions s) rs ts (f .n) (f .m))
+      (g : v .right ≡ true → Surveyed (positions s) rs ts (f .n) (f .m) (v .keys) (v .room) (v .next) (v .last)
+      (v .home) (v .slot)) (er : r ≡ verdict (f .refusal) (v .right))
       (wr : Words rs) (wt : Words ts) where
     first-stays : v .right ≡ true → r ≡ f .refusal
     unfolding verdict
@@ -99,8 +103,13 @@ module _ (s : ℕ) (rs ts : List ℕ) where
       where
         refused : isDone (f .refusal) ≡ false → Looks s rs ts (record { refusal = r; n = f .n; m = f .m; survey = v })
         refused n =
-            let same : r ≡ f .refusal = first-stays (e ∙ ap (placed (positions s) rs ts (f .n)) (o .refused n .1) ∙ none-placed (f .n)) in
-            record { refusal = same ∙ sym (o .refused n .0); start = λ d. absurd (true-false (sym d ∙ ap isDone same ∙ n)) }
+            let same : r ≡ f .refusal = first-stays
+            (e ∙ ap (placed (positions s) rs ts (f .n)) (o .refused n .1) ∙ none-placed (f .n)) in
+            record {
+              refusal = same ∙ sym (o .refused n .0);
+              start = λ d. absurd
+                  (true-false (sym d ∙ ap isDone same ∙ n));
+            }
 
         done : isDone (f .refusal) ≡ true → Looks s rs ts (record { refusal = r; n = f .n; m = f .m; survey = v })
         done y =
@@ -110,7 +119,16 @@ module _ (s : ℕ) (rs ts : List ℕ) where
             (λ t. let ok : tablesRight s rs ts ≡ true = sym (right-meaning s rs ts wr wt) ∙ same ∙ t in
             record {
               refusal = first-stays t ∙ o .passed y .0 ∙ sym (right-passed wr wt (sym (p .known)) refl (same ∙ t));
-              start = λ _. record { known = p .known; right = ok; relays = p .relays; tablets = p .tablets; surveyed = g t; relayWords = wr; tabletWords = wt };
+              start = λ _. record {
+                known = p .known;
+                right = ok;
+                relays = p .relays;
+                tablets = p .tablets;
+                surveyed = g
+                    t;
+                relayWords = wr;
+                tabletWords = wt;
+              };
             })
             (λ t. record {
               refusal = second t ∙ sym (wrong-refused wr wt (sym (p .known)) refl (same ∙ t));

@@ -56,7 +56,8 @@ module _ {s : ℕ} {rs ts : List ℕ} {n m : ℕ} {v : Survey} (b : Start s rs t
 -- ---- refusals
 
 -- one of the first two comes before whatever follows them
-pub tables-first : (s : ℕ) (rs ts : List ℕ) (later : List Bar) (r : Refusal) → tablesRefusal s rs ts ≡ r → isDone r ≡ false
+pub tables-first : (s : ℕ) (rs ts : List ℕ) (later : List Bar) (r : Refusal) → tablesRefusal s rs ts ≡ r
+    → isDone r ≡ false
     → firstBar (tablesBars s rs ts later) ≡ r
 unfolding tablesRefusal tablesBars firstBar isDone
 tables-first s rs ts later r e h =
@@ -119,17 +120,22 @@ module _ (s : ℕ) (rs ts ms : List ℕ) (c : Call) where
 
   pub after-declined : isDone why ≡ false → after s rs ts ms c ≡ record { reply = bareReply why; lent = lists rs ts ms }
   unfolding after left outcomeOf declined
-  after-declined h = rw (outcome-declined (positions s) lent ring c h) (settled-refused why (bareReply why) (lists rs ts ms) _ h)
+  after-declined h =
+      rw (outcome-declined (positions s) lent ring c h) (settled-refused why (bareReply why) (lists rs ts ms) _ h)
 
   pub after-accepted : isDone why ≡ true → after s rs ts ms c ≡ written listed rs ts ms (accepted (positions s) ring c)
   unfolding after left outcomeOf accepted isDone
   after-accepted h = rw (outcome-accepted (positions s) lent ring c h) (settled-done Done _ (lists rs ts ms) _ refl)
 
-  pub refused-answers : (r : Refusal) → why ≡ r → isDone r ≡ false → (reply : Reply) → reply ≡ bareReply r → Answers (after s rs ts ms c) reply (lists rs ts ms)
-  refused-answers r e h reply er = rw (after-declined (ap isDone e ∙ h)) (record { reply = er ∙ ap bareReply (sym e); lent = refl })
+  pub refused-answers : (r : Refusal) → why ≡ r → isDone r ≡ false → (reply : Reply) → reply ≡ bareReply r
+      → Answers (after s rs ts ms c) reply (lists rs ts ms)
+  refused-answers r e h reply er =
+      rw (after-declined (ap isDone e ∙ h)) (record { reply = er ∙ ap bareReply (sym e); lent = refl })
 
-  pub accepted-answers : why ≡ Done → (reply : Reply) (rs′ ts′ ms′ : List ℕ) → reply ≡ accepted (positions s) ring c .reply
-      → rs′ ≡ relayTable (length rs) (Calls.after (positions s) ring c) → ts′ ≡ tabletTable (length ts) (Calls.after (positions s) ring c)
+  pub accepted-answers : why ≡ Done → (reply : Reply) (rs′ ts′ ms′ : List ℕ)
+      → reply ≡ accepted (positions s) ring c .reply
+      → rs′ ≡ relayTable (length rs) (Calls.after (positions s) ring c)
+      → ts′ ≡ tabletTable (length ts) (Calls.after (positions s) ring c)
       → ms′ ≡ listed (moves (positions s) ring c) ms → Answers (after s rs ts ms c) reply (lists rs′ ts′ ms′)
   unfolding isDone
   accepted-answers e reply rs′ ts′ ms′ er ers ets ems =

@@ -47,8 +47,12 @@ module _ {s : ℕ} {rs ts : List ℕ} {n m : ℕ} {v : Survey} (b : Start s rs t
 
   pub relays-stay : (g : Ring) → g .relays ≡ relaysIn rs n → rs ≡ relayTable (length rs) g
   unfolding relayTable
-  relays-stay g e = relays-filled rs n relays-whole (rises .relaysFit .there) relays-zeros ∙ ap (λ (l : List Entry). filled (length rs) (flat l)) (sym e)
+  relays-stay g e =
+      relays-filled rs n relays-whole (rises .relaysFit .there) relays-zeros
+      ∙ ap (λ (l : List Entry). filled (length rs) (flat l)) (sym e)
 
   pub tablets-stay : (g : Ring) → g .tablets ≡ tabletsIn ts m → ts ≡ tabletTable (length ts) g
   unfolding tabletTable
-  tablets-stay g e = tablets-filled ts m tablets-whole (rises .tabletsFit .there) tablets-zeros ∙ ap (λ (l : List Entry). filled (length ts) (flat l)) (sym e)
+  tablets-stay g e =
+      tablets-filled ts m tablets-whole (rises .tabletsFit .there) tablets-zeros
+      ∙ ap (λ (l : List Entry). filled (length ts) (flat l)) (sym e)

@@ -30,7 +30,8 @@ module _ (s : ℕ) (rs ts ms : List ℕ) (c : Call) where
   unfolding outcomeOf accepted declined isDone
   zeros f =
       split (isDone (refusal (positions s) lent (ringOf rs ts) c))
-      (λ d. absurd (true-false (ap (λ (x : Outcome). isDone (x .reply .refusal)) (sym (outcome-accepted (positions s) lent (ringOf rs ts) c d)) ∙ f)))
+      (λ d. absurd (true-false (ap (λ (x : Outcome). isDone (x .reply .refusal))
+      (sym (outcome-accepted (positions s) lent (ringOf rs ts) c d)) ∙ f)))
       (λ d. rw (outcome-declined (positions s) lent (ringOf rs ts) c d))
 
   pub refused-stays : {r : Reply} {l : Lists ℕ} → Answers (after s rs ts ms c) r l → isDone (r .refusal) ≡ false
@@ -38,6 +39,8 @@ module _ (s : ℕ) (rs ts ms : List ℕ) (c : Call) where
   unfolding after left written
   refused-stays {r} {l} a f =
       let e : (r ≡ o .reply) × (l ≡ lists rs ts ms) =
-      Promise.refused-stays (o .reply .refusal) (o .reply) (lists rs ts ms) (written listed rs ts ms o) (λ x. x .refusal) (λ d. d) a f in
-      let z : o .reply ≡ bareReply (o .reply .refusal) = zeros (ap (λ (x : Reply). isDone (x .refusal)) (sym (e .0)) ∙ f) in
+      Promise.refused-stays (o .reply .refusal) (o .reply) (lists rs ts ms) (written listed rs ts ms o)
+      (λ x. x .refusal) (λ d. d) a f in
+      let z : o .reply ≡ bareReply (o .reply .refusal) = zeros
+      (ap (λ (x : Reply). isDone (x .refusal)) (sym (e .0)) ∙ f) in
       (e .0 ∙ z ∙ ap (λ (x : Reply). bareReply (x .refusal)) (sym (e .0)), e .1)

@@ -16,7 +16,8 @@ use Rattle.call_start.specs.Promise.{lists, after}
 use Rattle.call_start.specs.Start.{Start, Looks}
 use Rattle.call_start.proofs.Refusals.{look-refused, refused-answers}
 
-module _ {s : ℕ} {rs ts : List ℕ} {l : Looked} (k : Looks s rs ts l) {done : Bool} (e : done ≡ isDone (l .refusal)) where
+module _ {s : ℕ} {rs ts : List ℕ} {l : Looked} (k : Looks s rs ts l) {done : Bool}
+    (e : done ≡ isDone (l .refusal)) where
   pub look-start : not done ≡ false → Start s rs ts (l .n) (l .m) (l .survey)
   look-start h = k .start (sym e ∙ not-false done h)
 
@@ -24,4 +25,5 @@ module _ {s : ℕ} {rs ts : List ℕ} {l : Looked} (k : Looks s rs ts l) {done :
       → Answers (after s rs ts ms c) reply (lists rs ts ms)
   look-answers h {reply} er c ms =
       let no : isDone (l .refusal) ≡ false = sym e ∙ not-true _ h in
-      refused-answers s rs ts ms c (l .refusal) (look-refused s rs ts ms c (l .refusal) (sym (k .refusal)) no) no reply er
+      refused-answers s rs ts ms c (l .refusal) (look-refused s rs ts ms c (l .refusal) (sym (k .refusal)) no) no reply
+      er

@@ -26,12 +26,18 @@ abbrev pub lists : {M : Type 0} → List ℕ → List ℕ → List M → Lists M
 lists rs ts ms = record { relays = rs; tablets = ts; moves = ms }
 
 -- an accepted outcome in the lent lists, with its moves written at the start of the list
-unfoldable pub written : {M : Type 0} → (List Move → List M → List M) → List ℕ → List ℕ → List M → Outcome → After Reply (Lists M)
+unfoldable pub written : {M : Type 0} → (List Move → List M → List M) → List ℕ → List ℕ → List M → Outcome
+    → After Reply (Lists M)
 written write rs ts ms o =
-    record { reply = o .reply; lent = lists (relayTable (length rs) (o .ring)) (tabletTable (length ts) (o .ring)) (write (o .moves) ms) }
+    record {
+      reply = o .reply;
+      lent = lists (relayTable (length rs) (o .ring)) (tabletTable (length ts) (o .ring))
+          (write (o .moves) ms);
+    }
 
 -- and what a refused one leaves
-unfoldable pub left : {M : Type 0} → (List Move → List M → List M) → List ℕ → List ℕ → List M → Outcome → After Reply (Lists M)
+unfoldable pub left : {M : Type 0} → (List Move → List M → List M) → List ℕ → List ℕ → List M → Outcome
+    → After Reply (Lists M)
 left write rs ts ms o = settled (o .reply .refusal) (o .reply) (lists rs ts ms) (written write rs ts ms o)
 
 unfoldable pub after : ℕ → List ℕ → List ℕ → List ℕ → Call → After Reply (Lists ℕ)

@@ -11,7 +11,8 @@ use Rattle.call_start.specs.Promise.{Lists, after}
 use Rattle.calls.specs.Promise.{countedAfter}
 
 module _ (s : ℕ) (rs ts ms tally : List ℕ) (c : Call) {r : Reply} {l : Lists ℕ} {t : List ℕ} where
-  pub keeps : Answers (after s rs ts ms c) r l → t ≡ tallied tally c r → Answers (countedAfter s rs ts ms tally c) r (l, t)
+  pub keeps : Answers (after s rs ts ms c) r l → t ≡ tallied tally c r → Answers (countedAfter s rs ts ms tally c) r
+      (l, t)
   unfolding countedAfter
   keeps a e = tally-answers (tallied tally c) a e
 

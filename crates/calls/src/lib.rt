@@ -1,4 +1,5 @@
-// The six calls, each of which also brings the lent tally up to date, and the six as one (document 01, "Replies", "Sheet, balance, tally"). A tally is
+// The six calls, each of which also brings the lent tally up to date, and the six as one (document 01, "Replies", "Sheet, balance, tally"). A tally
+// is
 // four numbers; one of another length is left as it is, and the call does and replies the same.
 ghost use mathlib.Core.List.{List};
 ghost use Prim.Native.Nat.{ℕ};
@@ -16,7 +17,8 @@ pub fn add(
     r: ring::RelayNumber,
     limit: u32,
 ) -> rule::Reply
-    ensures { λ reply. ⌜ Answers (countedAfter scheme (now (relays .entry)) (now (tablets .entry)) (now (moves .entry)) (now (tally .entry)) (Add r limit))
+    ensures { λ reply. ⌜ Answers (countedAfter scheme (now (relays .entry)) (now (tablets .entry)) (now (moves .entry))
+        (now (tally .entry)) (Add r limit))
         reply (lists (now (relays .exit)) (now (tablets .exit)) (now (moves .exit)), now (tally .exit)) ⌝ }
 {
     let reply = relay_calls::add(scheme, relays, tablets, moves, r, limit);
@@ -32,7 +34,8 @@ pub fn remove(
     tally: &mut [u32],
     r: ring::RelayNumber,
 ) -> rule::Reply
-    ensures { λ reply. ⌜ Answers (countedAfter scheme (now (relays .entry)) (now (tablets .entry)) (now (moves .entry)) (now (tally .entry)) (Remove r))
+    ensures { λ reply. ⌜ Answers (countedAfter scheme (now (relays .entry)) (now (tablets .entry)) (now (moves .entry))
+        (now (tally .entry)) (Remove r))
         reply (lists (now (relays .exit)) (now (tablets .exit)) (now (moves .exit)), now (tally .exit)) ⌝ }
 {
     let reply = relay_calls::remove(scheme, relays, tablets, moves, r);
@@ -49,7 +52,8 @@ pub fn set(
     r: ring::RelayNumber,
     limit: u32,
 ) -> rule::Reply
-    ensures { λ reply. ⌜ Answers (countedAfter scheme (now (relays .entry)) (now (tablets .entry)) (now (moves .entry)) (now (tally .entry)) (Set r limit))
+    ensures { λ reply. ⌜ Answers (countedAfter scheme (now (relays .entry)) (now (tablets .entry)) (now (moves .entry))
+        (now (tally .entry)) (Set r limit))
         reply (lists (now (relays .exit)) (now (tablets .exit)) (now (moves .exit)), now (tally .exit)) ⌝ }
 {
     let reply = relay_calls::set(scheme, relays, tablets, moves, r, limit);
@@ -65,7 +69,8 @@ pub fn enrol(
     tally: &mut [u32],
     t: ring::TabletNumber,
 ) -> rule::Reply
-    ensures { λ reply. ⌜ Answers (countedAfter scheme (now (relays .entry)) (now (tablets .entry)) (now (moves .entry)) (now (tally .entry)) (Enrol t))
+    ensures { λ reply. ⌜ Answers (countedAfter scheme (now (relays .entry)) (now (tablets .entry)) (now (moves .entry))
+        (now (tally .entry)) (Enrol t))
         reply (lists (now (relays .entry)) (now (tablets .exit)) (now (moves .exit)), now (tally .exit)) ⌝ }
 {
     let reply = enrol::enrol(scheme, relays, tablets, moves, t);
@@ -81,7 +86,8 @@ pub fn withdraw(
     tally: &mut [u32],
     t: ring::TabletNumber,
 ) -> rule::Reply
-    ensures { λ reply. ⌜ Answers (countedAfter scheme (now (relays .entry)) (now (tablets .entry)) (now (moves .entry)) (now (tally .entry)) (Withdraw t))
+    ensures { λ reply. ⌜ Answers (countedAfter scheme (now (relays .entry)) (now (tablets .entry)) (now (moves .entry))
+        (now (tally .entry)) (Withdraw t))
         reply (lists (now (relays .entry)) (now (tablets .exit)) (now (moves .exit)), now (tally .exit)) ⌝ }
 {
     let reply = withdraw::withdraw(scheme, relays, tablets, moves, t);
@@ -97,7 +103,8 @@ pub fn find(
     tally: &mut [u32],
     t: ring::TabletNumber,
 ) -> rule::Reply
-    ensures { λ reply. ⌜ ((moves : List ℕ) → Answers (countedAfter scheme (now (relays .entry)) (now (tablets .entry)) moves (now (tally .entry)) (Find t))
+    ensures { λ reply. ⌜ ((moves : List ℕ) → Answers
+        (countedAfter scheme (now (relays .entry)) (now (tablets .entry)) moves (now (tally .entry)) (Find t))
         reply (lists (now (relays .entry)) (now (tablets .entry)) moves, now (tally .exit))) ⌝ }
 {
     let reply = find::find(scheme, relays, tablets, t);
@@ -114,7 +121,8 @@ pub fn call(
     tally: &mut [u32],
     c: rule::Call,
 ) -> rule::Reply
-    ensures { λ reply. ⌜ Answers (countedAfter scheme (now (relays .entry)) (now (tablets .entry)) (now (moves .entry)) (now (tally .entry)) c)
+    ensures { λ reply. ⌜ Answers (countedAfter scheme (now (relays .entry)) (now (tablets .entry)) (now (moves .entry))
+        (now (tally .entry)) c)
         reply (lists (now (relays .exit)) (now (tablets .exit)) (now (moves .exit)), now (tally .exit)) ⌝ }
 {
     match c {

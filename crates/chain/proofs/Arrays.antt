@@ -52,7 +52,8 @@ way-some ts w l h =
     (λ s. let z : l ≡ 0 → ⊥ = eqb-false l 0 s in omega arith)
 
 module _ {b : Bool} {place seat place′ seat′ : List ℕ} {c i l : ℕ} where
-  pub visited-yes : b ≡ true → length place ≡ 256 → length seat ≡ 256 → seat′ ≡ set seat c i → place′ ≡ set place (c + 1) (l - 1)
+  pub visited-yes : b ≡ true → length place ≡ 256 → length seat ≡ 256 → seat′ ≡ set seat c i
+      → place′ ≡ set place (c + 1) (l - 1)
       → Visited b place seat place′ seat′ c i l (c + 1)
   visited-yes e lp ls es ep =
       rw e (record {
@@ -64,8 +65,17 @@ module _ {b : Bool} {place seat place′ seat′ : List ℕ} {c i l : ℕ} where
             ∙ length-set place (c + 1) (l - 1) ∙ lp;
       })
 
-  pub visited-no : b ≡ false → length place ≡ 256 → length seat ≡ 256 → seat′ ≡ seat → place′ ≡ place → Visited b place seat place′ seat′ c i l c
-  visited-no e lp ls es ep = rw e (record { count = refl; seats = es; places = ep; seat-size = ap length es ∙ ls; place-size = ap length ep ∙ lp })
+  pub visited-no : b ≡ false → length place ≡ 256 → length seat ≡ 256 → seat′ ≡ seat → place′ ≡ place
+      → Visited b place seat place′ seat′ c i l c
+  visited-no e lp ls es ep =
+      rw e (record {
+        count = refl;
+        seats = es;
+        places = ep;
+        seat-size = ap length es ∙ ls;
+        place-size = ap length ep
+            ∙ lp;
+      })
 
 -- ---- the greatest tablet at a relay
 
@@ -100,7 +110,8 @@ module _ {p : Positions} {rs ts : List ℕ} {n m : ℕ} (r : Rises p rs ts n m) 
       → P i (getD (lastAfter p rs ts n (suc j)) i 0)
   unfolding lastAfter
   last-more P j h here i other =
-      stored P (lastAfter p rs ts n j) (relayFor p rs ts n j) (omega (arith, last-length j, right-found r j h .below, few)) here i other
+      stored P (lastAfter p rs ts n j) (relayFor p rs ts n j)
+      (omega (arith, last-length j, right-found r j h .below, few)) here i other
 
   pub last-within : (j : ℕ) → j ≤ m → (i : ℕ) → i < n → getD (lastAfter p rs ts n j) i 0 ≤ j
   last-within zero h i c = omega (arith, last-none i c)
@@ -117,30 +128,35 @@ module _ {p : Positions} {rs ts : List ℕ} {n m : ℕ} (r : Rises p rs ts n m) 
   greatest-upto (suc j) h i c =
       let f : Found p rs ts n j = right-found r j h in
       ap (λ (z : ℕ). greatest (tabletsIn ts z) (relayNumber rs i)) (sym (add-one j))
-      ∙ greatest-more (tabletNumber ts) (tabletRelay ts) j (relayNumber rs i) (ascending-fewer (j + 1) (omega arith) (r .tablets))
+      ∙ greatest-more (tabletNumber ts) (tabletRelay ts) j (relayNumber rs i)
+      (ascending-fewer (j + 1) (omega arith) (r .tablets))
       ∙ last-more (λ x v. x ≡ i → cond (eqb (tabletRelay ts j) (relayNumber rs i)) (tabletNumber ts j)
       (greatest (tabletsIn ts j) (relayNumber rs i)) ≡ numberBefore ts v) j h
       (λ e. rw (eq-eqb (tabletRelay ts j) (relayNumber rs i) (sym (f .is) ∙ ap (relayNumber rs) e))
       (sym (number-before ts (suc j) (omega arith) ∙ ap (tabletNumber ts) (omega arith))))
       i
       (λ d e. rw (ne-eqb (tabletRelay ts j) (relayNumber rs i)
-      (λ (w : tabletRelay ts j ≡ relayNumber rs i). d (sym (ascending-apart (r .relays) (relayFor p rs ts n j) i (f .below) c (f .is ∙ w)))))
+      (λ (w : tabletRelay ts j ≡ relayNumber rs i). d
+      (sym (ascending-apart (r .relays) (relayFor p rs ts n j) i (f .below) c (f .is ∙ w)))))
       (greatest-upto j (omega arith) i c))
       refl
 
   pub greatest-last : (i : ℕ) → i < n → (last : List ℕ) → last ≡ lastAfter p rs ts n m
       → greatest (tabletsIn ts m) (relayNumber rs i) ≡ numberBefore ts (getD last i 0)
-  greatest-last i c last e = greatest-upto m (omega arith) i c ∙ ap (λ (l : List ℕ). numberBefore ts (getD l i 0)) (sym e)
+  greatest-last i c last e =
+      greatest-upto m (omega arith) i c ∙ ap (λ (l : List ℕ). numberBefore ts (getD l i 0)) (sym e)
 
 -- ---- the state of a turn
 
 module _ (x : ℕ) (rs ts : List ℕ) where
-  name-ext : (place place′ : List ℕ) (c : ℕ) → (0 < c → getD place′ c 0 ≡ getD place c 0) → nameAt x ts place′ c ≡ nameAt x ts place c
+  name-ext : (place place′ : List ℕ) (c : ℕ) → (0 < c → getD place′ c 0 ≡ getD place c 0) → nameAt x ts place′ c
+      ≡ nameAt x ts place c
   unfolding nameAt
   name-ext place place′ zero h = refl
   name-ext place place′ (suc c) h = ap (tabletNumber ts) (h (omega arith))
 
-  from-ext : (seat seat′ : List ℕ) (c : ℕ) → ((i : ℕ) → i < c → getD seat′ i 0 ≡ getD seat i 0) → fromAt rs seat′ c ≡ fromAt rs seat c
+  from-ext : (seat seat′ : List ℕ) (c : ℕ) → ((i : ℕ) → i < c → getD seat′ i 0 ≡ getD seat i 0) → fromAt rs seat′ c
+      ≡ fromAt rs seat c
   unfolding fromAt
   from-ext seat seat′ zero h = refl
   from-ext seat seat′ (suc c) h = ap (relayNumber rs) (h c (omega arith))
@@ -170,21 +186,32 @@ module _ (x : ℕ) (rs ts : List ℕ) where
   pub keeps-start : (place seat : List ℕ) (n m : ℕ) → Turned x rs ts place seat n m 0 (newcomer x)
   unfolding nameAt fromAt chainOf newcomer
   keeps-start place seat n m =
-      record { walker = refl; from = refl; chain = refl; places = λ i a b. absurd (omega arith); relays = λ i a. absurd (omega arith) }
+      record {
+        walker = refl;
+        from = refl;
+        chain = refl;
+        places = λ i a b. absurd (omega arith);
+        relays = λ i a. absurd
+            (omega arith);
+      }
 
-  module _ (place seat : List ℕ) (n m c : ℕ) (s : Turn) (k : Turned x rs ts place seat n m c s) (lp : length place ≡ 256)
+  module _ (place seat : List ℕ) (n m c : ℕ) (s : Turn) (k : Turned x rs ts place seat n m c s)
+      (lp : length place ≡ 256)
       (ls : length seat ≡ 256) (hc : c < 256) (r : ℕ) (hr : r < n) where
     -- the walker sits down at relay r
     sat : (place′ : List ℕ) → ((i : ℕ) → i ≤ c → getD place′ i 0 ≡ getD place i 0)
         → seats s (relayNumber rs r) ≡ chainOf x rs ts place′ (set seat c r) (suc c)
     unfolding seats chainOf linkAt
     sat place′ hp =
-        let same : (i : ℕ) → i < c → getD (set seat c r) i 0 ≡ getD seat i 0 = λ i l. getD-set-other seat c i r 0 (λ (e : i ≡ c). omega arith) in
+        let same : (i : ℕ) → i < c → getD (set seat c r) i 0 ≡ getD seat i 0 = λ i l. getD-set-other seat c i r 0
+        (λ (e : i ≡ c). omega arith) in
         let a : s .chain ≡ chainOf x rs ts place′ (set seat c r) c =
         k .chain ∙ sym (chain-ext place place′ seat (set seat c r) c (λ i z l. hp i (omega arith)) same) in
-        let w : s .walker ≡ nameAt x ts place′ c = k .walker ∙ sym (name-ext place place′ c (λ z. hp c (omega arith))) in
+        let w : s .walker ≡ nameAt x ts place′ c = k .walker
+        ∙ sym (name-ext place place′ c (λ z. hp c (omega arith))) in
         let f : s .from ≡ fromAt rs (set seat c r) c = k .from ∙ sym (from-ext seat (set seat c r) c same) in
-        let e : relayNumber rs r ≡ relayNumber rs (getD (set seat c r) c 0) = ap (relayNumber rs) (sym (getD-set-same seat c r 0 (omega arith))) in
+        let e : relayNumber rs r ≡ relayNumber rs (getD (set seat c r) c 0) = ap (relayNumber rs)
+        (sym (getD-set-same seat c r 0 (omega arith))) in
         λ i. a i ++ (move (w i) (f i) (e i) ∷ [])
 
     pub keeps-end : seats s (relayNumber rs r) ≡ chainOf x rs ts place (set seat c r) (c + 1)
@@ -196,7 +223,8 @@ module _ (x : ℕ) (rs ts : List ℕ) where
         → Turned x rs ts (set place (c + 1) (l - 1)) (set seat c r) n m (c + 1) (displacedBy T s e)
     unfolding nameAt fromAt
     gave-way hc′ T e l hl hm en eg =
-        let here : getD (set place (c + 1) (l - 1)) (c + 1) 0 ≡ l - 1 = getD-set-same place (c + 1) (l - 1) 0 (omega arith) in
+        let here : getD (set place (c + 1) (l - 1)) (c + 1) 0 ≡ l - 1 = getD-set-same place (c + 1) (l - 1) 0
+        (omega arith) in
         let other : (i : ℕ) → i ≤ c → getD (set place (c + 1) (l - 1)) i 0 ≡ getD place i 0 =
         λ i h. getD-set-other place (c + 1) i (l - 1) 0 (λ (z : i ≡ c + 1). omega arith) in
         let seat-here : getD (set seat c r) c 0 ≡ r = getD-set-same seat c r 0 (omega arith) in
@@ -211,14 +239,17 @@ module _ (x : ℕ) (rs ts : List ℕ) where
       where
         stored-place : (i : ℕ) → 0 < i → i ≤ suc c → getD (set place (suc c) (l - 1)) i 0 < m
         stored-place i a b =
-            stored (λ y v. 0 < y → y ≤ suc c → v < m) place (suc c) (omega arith) (λ p q. omega arith) i (λ d p q. k .places i p (omega arith)) a b
+            stored (λ y v. 0 < y → y ≤ suc c → v < m) place (suc c) (omega arith) (λ p q. omega arith) i
+            (λ d p q. k .places i p (omega arith)) a b
 
         stored-seat : (i : ℕ) → i < suc c → getD (set seat c r) i 0 < n
-        stored-seat i a = stored (λ y v. y < suc c → v < n) seat c (omega arith) (λ p. hr) i (λ d p. k .relays i (omega arith)) a
+        stored-seat i a =
+            stored (λ y v. y < suc c → v < n) seat c (omega arith) (λ p. hr) i (λ d p. k .relays i (omega arith)) a
 
     pub keeps-visited : c + 1 < 256 → (T : List Entry) (e : Entry) (l : ℕ) (place′ seat′ : List ℕ) (c′ : ℕ) → l ≤ m
         → e .number ≡ relayNumber rs r → greatest T (e .number) ≡ numberBefore ts l
-        → (w : ℕ) → w ≡ s .walker → Visited (givesWay ts w l) place seat place′ seat′ c r l c′ → Turned x rs ts place′ seat′ n m c′ (turnAt T s e)
+        → (w : ℕ) → w ≡ s .walker → Visited (givesWay ts w l) place seat place′ seat′ c r l c′
+        → Turned x rs ts place′ seat′ n m c′ (turnAt T s e)
     keeps-visited hc′ T e l place′ seat′ c′ hm en eg w ew v =
         let b : givesWay ts w l ≡ ltb (s .walker) (greatest T (e .number)) =
         way-greatest ts w l ∙ ap (λ (z : ℕ). ltb z (numberBefore ts l)) ew ∙ ap (ltb (s .walker)) (sym eg) in

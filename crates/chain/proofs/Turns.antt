@@ -24,7 +24,8 @@ use Rattle.chain.specs.Visit.{givesWay, Visited}
 use Rattle.chain.proofs.Arrays.{Turned, numberBefore, last-within, greatest-last, keeps-start, keeps-end, keeps-visited}
 
 -- d steps on, at slot k, c sat down
-pub record Going (rs ts : List ℕ) (n m : ℕ) (keys : List ℕ) (h stop x : ℕ) (place seat : List ℕ) (c d k : ℕ) : Type 0 where
+pub record Going (rs ts : List ℕ) (n m : ℕ) (keys : List ℕ) (h stop x : ℕ) (place seat : List ℕ)
+    (c d k : ℕ) : Type 0 where
   pub short : d ≤ stepsTo n h stop
   pub at : k ≡ slotAt n h d
   pub few : c ≤ d
@@ -32,7 +33,8 @@ pub record Going (rs ts : List ℕ) (n m : ℕ) (keys : List ℕ) (h stop x : �
   pub seat-size : length seat ≡ mostRelays
   pub keeps : Turned x rs ts place seat n m c (turn (tabletsIn ts m) (newcomer x) (round rs keys n h d))
 
-module _ {p : Positions} {rs ts : List ℕ} {n m : ℕ} {keys last : List ℕ} {h stop : ℕ} (f : From p rs ts n m keys last h stop) where
+module _ {p : Positions} {rs ts : List ℕ} {n m : ℕ} {keys last : List ℕ} {h stop : ℕ}
+    (f : From p rs ts n m keys last h stop) where
   in-ring : h ≤ n
   in-ring = omega (arith, f .home)
 
@@ -51,7 +53,8 @@ module _ {p : Positions} {rs ts : List ℕ} {n m : ℕ} {keys last : List ℕ} {
         few = omega arith;
         place-size = lp;
         seat-size = ls;
-        keeps = subst (λ (s : Turn). Turned x rs ts place seat n m 0 s) (sym none-yet) (keeps-start x rs ts place seat n m);
+        keeps = subst (λ (s : Turn). Turned x rs ts place seat n m 0 s) (sym none-yet)
+            (keeps-start x rs ts place seat n m);
       }
     where
       none-yet : turn (tabletsIn ts m) (newcomer x) (round rs keys n h 0) ≡ newcomer x
@@ -63,11 +66,13 @@ module _ {p : Positions} {rs ts : List ℕ} {n m : ℕ} {keys last : List ℕ} {
 
     -- at the stop the steps are all done
     pub all-steps : k ≡ stop → d ≡ stepsTo n h stop
-    all-steps e = sym (steps-slot n h in-ring d (omega (arith, g .short, steps-few))) ∙ ap (stepsTo n h) (sym (g .at) ∙ e)
+    all-steps e =
+        sym (steps-slot n h in-ring d (omega (arith, g .short, steps-few))) ∙ ap (stepsTo n h) (sym (g .at) ∙ e)
 
     pub more-steps : (k ≡ stop → ⊥) → d < stepsTo n h stop
     more-steps ne =
-        let z : d ≡ stepsTo n h stop → ⊥ = λ e. ne (g .at ∙ ap (slotAt n h) e ∙ slot-steps n h in-ring stop (f .inside)) in
+        let z : d ≡ stepsTo n h stop → ⊥ = λ e. ne
+        (g .at ∙ ap (slotAt n h) e ∙ slot-steps n h in-ring stop (f .inside)) in
         omega (arith, g .short)
 
     pub room-for-one : (k ≡ stop → ⊥) → c + 1 < mostRelays
@@ -83,7 +88,8 @@ module _ {p : Positions} {rs ts : List ℕ} {n m : ℕ} {keys last : List ℕ} {
     place-there z = omega (arith, g .keeps .places c z (omega arith), f .rises .tabletsFit .there)
 
     pub going-more : (k ≡ stop → ⊥) → (i w l : ℕ) → i ≡ slotRelay keys k → w ≡ nameAt x ts place c → l ≡ getD last i 0
-        → (place′ seat′ : List ℕ) (c′ k′ : ℕ) → Visited (givesWay ts w l) place seat place′ seat′ c i l c′ → k′ ≡ nextSlot n k
+        → (place′ seat′ : List ℕ) (c′ k′ : ℕ) → Visited (givesWay ts w l) place seat place′ seat′ c i l c′
+        → k′ ≡ nextSlot n k
         → Going rs ts n m keys h stop x place′ seat′ c′ (d + 1) k′
     unfolding nextSlot
     going-more ne i w l ei ew el place′ seat′ c′ k′ v ek =
@@ -95,19 +101,24 @@ module _ {p : Positions} {rs ts : List ℕ} {n m : ℕ} {keys last : List ℕ} {
           place-size = v .place-size;
           seat-size = v .seat-size;
           keeps = subst (λ (s : Turn). Turned x rs ts place′ seat′ n m c′ s) (sym one-more)
-              (keeps-visited x rs ts place seat n m c (turn (tabletsIn ts m) (newcomer x) (round rs keys n h d)) (g .keeps) (g .place-size)
+              (keeps-visited x rs ts place seat n m c (turn (tabletsIn ts m) (newcomer x) (round rs keys n h d))
+              (g .keeps) (g .place-size)
               (g .seat-size) (omega (arith, room-for-one ne)) i (rw ei relay-small) (room-for-one ne)
-              (tabletsIn ts m) (entry (roundNumber rs keys n h d) (roundLimit rs keys n h d)) l place′ seat′ c′ (rw el (last-small i ei)) number
+              (tabletsIn ts m) (entry (roundNumber rs keys n h d) (roundLimit rs keys n h d)) l place′ seat′ c′
+              (rw el (last-small i ei)) number
               (ap (greatest (tabletsIn ts m)) number ∙ greatest-last (f .rises) i (rw ei relay-small) last (f .greatest)
               ∙ ap (λ (z : ℕ). numberBefore ts z) (sym el))
               w (ew ∙ sym (g .keeps .walker)) v);
         }
       where
         number : roundNumber rs keys n h d ≡ relayNumber rs i
-        number = unfold roundNumber in (ap (λ (z : ℕ). relayNumber rs (slotRelay keys z)) (sym (g .at)) ∙ ap (relayNumber rs) (sym ei))
+        number =
+            unfold roundNumber in (ap (λ (z : ℕ). relayNumber rs (slotRelay keys z)) (sym (g .at))
+            ∙ ap (relayNumber rs) (sym ei))
 
         one-more : turn (tabletsIn ts m) (newcomer x) (round rs keys n h (d + 1)) ≡ turnAt (tabletsIn ts m)
-            (turn (tabletsIn ts m) (newcomer x) (round rs keys n h d)) (entry (roundNumber rs keys n h d) (roundLimit rs keys n h d))
+            (turn (tabletsIn ts m) (newcomer x) (round rs keys n h d))
+            (entry (roundNumber rs keys n h d) (roundLimit rs keys n h d))
         one-more =
             ap (λ (z : ℕ). turn (tabletsIn ts m) (newcomer x) (round rs keys n h z)) (add-one d)
             ∙ unfold places in (turn-last (tabletsIn ts m) (newcomer x) (round rs keys n h d)
@@ -123,13 +134,16 @@ module _ {p : Positions} {rs ts : List ℕ} {n m : ℕ} {keys last : List ℕ} {
         record {
           steps = all-steps e;
           few = g .few;
-          is = ap (λ (z : ℕ). seats (turn (tabletsIn ts m) (newcomer x) (round rs keys n h d)) (relayNumber rs z)) (sym ei)
-              ∙ keeps-end x rs ts place seat n m c (turn (tabletsIn ts m) (newcomer x) (round rs keys n h d)) (g .keeps) (g .place-size)
+          is = ap (λ (z : ℕ). seats (turn (tabletsIn ts m) (newcomer x) (round rs keys n h d)) (relayNumber rs z))
+              (sym ei)
+              ∙ keeps-end x rs ts place seat n m c (turn (tabletsIn ts m) (newcomer x) (round rs keys n h d)) (g .keeps)
+              (g .place-size)
               (g .seat-size) (omega (arith, g .few, g .short, steps-few, few-relays)) i stop-small
               ∙ ap (λ (z : List ℕ). chainOf x rs ts place z (c + 1)) (sym es);
           places = g .keeps .places;
           relays = λ j a. rw es
-              (stored (λ y v. y ≤ c → v < n) seat c (omega (arith, g .seat-size, g .few, g .short, steps-few, few-relays))
+              (stored (λ y v. y ≤ c → v < n) seat c
+              (omega (arith, g .seat-size, g .few, g .short, steps-few, few-relays))
               (λ q. stop-small) j (λ ne q. g .keeps .relays j (omega arith)) a);
         }
       where

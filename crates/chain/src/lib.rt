@@ -60,8 +60,10 @@ fn sit_down(
     i: usize,
     l: usize,
 )
-    requires { ⌜ (c + 1 < mostRelays) × (i < mostRelays) × (0 < l) × (l ≤ mostTablets) × (length (now place) ≡ mostRelays) × (length (now seat) ≡ mostRelays) ⌝ }
-    ensures { λ r. ⌜ (now (seat .exit) ≡ set (now (seat .entry)) c i) × (now (place .exit) ≡ set (now (place .entry)) (c + 1) (l - 1)) ⌝ }
+    requires { ⌜ (c + 1 < mostRelays) × (i < mostRelays) × (0 < l) × (l ≤ mostTablets)
+        × (length (now place) ≡ mostRelays) × (length (now seat) ≡ mostRelays) ⌝ }
+    ensures { λ r. ⌜ (now (seat .exit) ≡ set (now (seat .entry)) c i)
+        × (now (place .exit) ≡ set (now (place .entry)) (c + 1) (l - 1)) ⌝ }
 {
     seat[c] = i as u8;
     place[c + 1] = (l - 1) as u16;

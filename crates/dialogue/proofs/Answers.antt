@@ -20,7 +20,8 @@ use Rattle.stage.specs.Stage.{Said, Says}
 use Rattle.stage.proofs.Says.{says-text}
 use Rattle.dialogue.specs.Lines.{unchanged, called, Shows}
 
-pub shows-said : {s : Said} {rs ts ms out out′ : List ℕ} {r : Standing} → Says s out r out′ → Shows (unchanged rs ts ms s) out r (lists rs ts ms) out′
+pub shows-said : {s : Said} {rs ts ms out out′ : List ℕ} {r : Standing} → Says s out r out′
+    → Shows (unchanged rs ts ms s) out r (lists rs ts ms) out′
 unfolding unchanged
 shows-said p = record { answer = p; lent = refl }
 
@@ -30,4 +31,8 @@ module _ (s : ℕ) (rs ts ms tally : List ℕ) (c : Call) {r : Reply} {l : Lists
   unfolding called
   shows-call k p =
       let a : Answers (after s rs ts ms c) r l = kept-answers s rs ts ms tally c k in
-      record { answer = says-text (puts-text (ap₂ (λ (x : Reply) (y : Lists ℕ). answerText x (y .moves)) (a .reply) (a .lent)) p); lent = a .lent }
+      record {
+        answer = says-text (puts-text (ap₂ (λ (x : Reply) (y : Lists ℕ). answerText x (y .moves)) (a .reply)
+            (a .lent)) p);
+        lent = a .lent;
+      }

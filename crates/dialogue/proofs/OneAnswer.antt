@@ -19,7 +19,8 @@ says-one {s} {out} {out₁} {out₂} {r₁} {r₂} x y =
     let d : r₁ .due ≡ r₂ .due = x .puts .behind ∙ sym (y .puts .behind) in
     λ i. record { stage = e i; kept = k i; due = d i }
 
-pub shows-one : {a : Left} {out : List ℕ} {r₁ r₂ : Standing} {l₁ l₂ : Lists ℕ} {out₁ out₂ : List ℕ} → Shows a out r₁ l₁ out₁ → Shows a out r₂ l₂ out₂
+pub shows-one : {a : Left} {out : List ℕ} {r₁ r₂ : Standing} {l₁ l₂ : Lists ℕ} {out₁ out₂ : List ℕ}
+    → Shows a out r₁ l₁ out₁ → Shows a out r₂ l₂ out₂
     → Same r₁ r₂ l₁ l₂ out₁ out₂
 shows-one x y =
     record {

@@ -12,7 +12,8 @@ fn next_line(
     scheme: u32,
     line: &[u8],
 ) -> stage::Standing
-    ensures { λ r. ⌜ Shows (under scheme (now (relays .entry)) (now (tablets .entry)) (now (moves .entry)) (meaningOf (now (line .entry)))) (now (answer .entry))
+    ensures { λ r. ⌜ Shows (under scheme (now (relays .entry)) (now (tablets .entry)) (now (moves .entry))
+        (meaningOf (now (line .entry)))) (now (answer .entry))
         r (lists (now (relays .exit)) (now (tablets .exit)) (now (moves .exit))) (now (answer .exit)) ⌝ }
 {
     match line::meaning(line) {
@@ -40,7 +41,8 @@ pub fn answer_line(
     stage: stage::Stage,
     line: &[u8],
 ) -> stage::Standing
-    ensures { λ r. ⌜ Shows (answered stage (now (relays .entry)) (now (tablets .entry)) (now (moves .entry)) (now (line .entry))) (now (answer .entry))
+    ensures { λ r. ⌜ Shows (answered stage (now (relays .entry)) (now (tablets .entry)) (now (moves .entry))
+        (now (line .entry))) (now (answer .entry))
         r (lists (now (relays .exit)) (now (tablets .exit)) (now (moves .exit))) (now (answer .exit)) ⌝ }
 {
     match stage {

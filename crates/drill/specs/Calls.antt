@@ -11,7 +11,8 @@ use Rattle.histories.specs.Drilled.{drillCalls}
 unfoldable pub made : List Call
 made =
     drillCalls
-    ++ (Remove (record { 0 = 10 }) ∷ Withdraw (record { 0 = 99 }) ∷ Set (record { 0 = 20 }) 4096 ∷ Set (record { 0 = 20 }) 4097
+    ++ (Remove (record { 0 = 10 }) ∷ Withdraw (record { 0 = 99 }) ∷ Set (record { 0 = 20 }) 4096 ∷ Set
+    (record { 0 = 20 }) 4097
     ∷ Add (record { 0 = 256 }) 0 ∷ Add (record { 0 = 257 }) 0 ∷ [])
 
 -- eight records without a move

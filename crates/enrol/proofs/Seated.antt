@@ -43,9 +43,11 @@ climbs-still e u = record { up = λ i l a b. let z = u .up i l a b in omega (ari
 module _ (x : ℕ) (rs ts ms place seat : List ℕ) (m : ℕ) where
   pub seating-start : OthersSeated x rs ts ms place seat ts ms m 0
   unfolding othersOf seated
-  seating-start = record { size = refl; numbers = λ i. refl; relays = λ i h. refl; entries = refl; list = listed-none ms }
+  seating-start =
+      record { size = refl; numbers = λ i. refl; relays = λ i h. refl; entries = refl; list = listed-none ms }
 
-  pub seating-more : {ts₁ ms₁ ts₂ ms₂ : List ℕ} (c : ℕ) → OthersSeated x rs ts ms place seat ts₁ ms₁ m c → 3 * (c + 1) ≤ length ms
+  pub seating-more : {ts₁ ms₁ ts₂ ms₂ : List ℕ} (c : ℕ) → OthersSeated x rs ts ms place seat ts₁ ms₁ m c
+      → 3 * (c + 1) ≤ length ms
       → OneSeated rs ts₁ ts₂ ms₁ ms₂ m c (getD place (c + 1) 0) (getD seat c 0) (getD seat (c + 1) 0)
       → OthersSeated x rs ts ms place seat ts₂ ms₂ m (c + 1)
   seating-more {ts₁} {ms₁} {ts₂} {ms₂} c s h d =
@@ -58,8 +60,10 @@ module _ (x : ℕ) (rs ts ms place seat : List ℕ) (m : ℕ) where
         numbers = λ i. d .numbers i ∙ s .numbers i;
         relays = λ i l. d .relays i l ∙ s .relays i l;
         entries = d .entries ∙ ap (λ (z : ℕ). put z (relayNumber rs (getD seat (c + 1) 0)) (tabletsIn ts₁ m)) t
-            ∙ ap (λ (z : ℕ). put (one .tablet .0) z (tabletsIn ts₁ m)) to ∙ ap (put (one .tablet .0) (one .new .0)) (s .entries)
-            ∙ sym (ap (λ (l : List Move). seated l (tabletsIn ts m)) e ∙ seated-append (othersOf x rs ts place seat c) (one ∷ [])
+            ∙ ap (λ (z : ℕ). put (one .tablet .0) z (tabletsIn ts₁ m)) to ∙ ap (put (one .tablet .0) (one .new .0))
+            (s .entries)
+            ∙ sym (ap (λ (l : List Move). seated l (tabletsIn ts m)) e ∙ seated-append (othersOf x rs ts place seat c)
+            (one ∷ [])
             (tabletsIn ts m) ∙ unfold seated in refl);
         list = listed-more (othersOf x rs ts place seat c) ms one (s .list) (sym (length-others x rs ts place seat c)) h
             (d .list ∙ rw (t, from, to))
@@ -81,12 +85,15 @@ pub places-still : (a b : List ℕ) {m : ℕ} → length a ≡ length b → m �
 unfolding tabletPlaces
 places-still a b e h = rw e h
 
-pub list-length : {x : ℕ} {rs ts ms place seat ts′ ms′ : List ℕ} {m c : ℕ} (others : ℕ) → c ≤ others → 3 * others ≤ length ms
+pub list-length : {x : ℕ} {rs ts ms place seat ts′ ms′ : List ℕ} {m c : ℕ} (others : ℕ) → c ≤ others
+    → 3 * others ≤ length ms
     → OthersSeated x rs ts ms place seat ts′ ms′ m c → length ms′ ≡ length ms
 list-length {x} {rs} {ts} {ms} {place} {seat} {c = c} others l h s =
-    ap length (s .list) ∙ length-listed (othersOf x rs ts place seat c) ms (omega (arith, length-others x rs ts place seat c))
+    ap length (s .list) ∙ length-listed (othersOf x rs ts place seat c) ms
+    (omega (arith, length-others x rs ts place seat c))
 
-pub sat-at : {rs ts ts′ ms ms′ : List ℕ} {m c j old new j′ old′ new′ : ℕ} → OneSeated rs ts ts′ ms ms′ m c j old new → j ≡ j′ → old ≡ old′
+pub sat-at : {rs ts ts′ ms ms′ : List ℕ} {m c j old new j′ old′ new′ : ℕ} → OneSeated rs ts ts′ ms ms′ m c j old new
+    → j ≡ j′ → old ≡ old′
     → new ≡ new′ → OneSeated rs ts ts′ ms ms′ m c j′ old′ new′
 sat-at d ej eo en = rw (← ej, ← eo, ← en) d
 

@@ -42,11 +42,13 @@ seated-insert (m ∷ ms) low up x c h es =
     ap (seated ms) (put-insert (m .tablet .0) (m .new .0) x c es (λ (e : m .tablet .0 ≡ x). omega (arith, up .0)))
     ∙ seated-insert ms (m .tablet .0) (up .1) x c (omega (arith, up .0)) (put (m .tablet .0) (m .new .0) es)
 
-module _ {s : ℕ} {rs ts ms : List ℕ} {t : TabletNumber} {p : Enrolment} (pl : Prepared s rs ts ms t p) (d : isDone (p .refusal) ≡ true) where
+module _ {s : ℕ} {rs ts ms : List ℕ} {t : TabletNumber} {p : Enrolment} (pl : Prepared s rs ts ms t p)
+    (d : isDone (p .refusal) ≡ true) where
   abbrev w : Worked s rs ts ms t (p .m) (p .at) (p .chain)
   w = pl .worked d
 
-  pub place-still : {ts₁ ms₁ : List ℕ} → OthersSeated (t .0) rs ts ms (p .chain .place) (p .chain .seat) ts₁ ms₁ (p .m) (p .chain .others)
+  pub place-still : {ts₁ ms₁ : List ℕ} → OthersSeated (t .0) rs ts ms (p .chain .place) (p .chain .seat) ts₁ ms₁ (p .m)
+      (p .chain .others)
       → (p .m < tabletPlaces ts₁) × Place (tabletNumber ts₁) (p .m) (t .0) (p .at)
   place-still {ts₁} sd = (
     places-still ts₁ ts (sd .size) (w .unused),
@@ -57,7 +59,8 @@ module _ {s : ℕ} {rs ts ms : List ℕ} {t : TabletNumber} {p : Enrolment} (pl 
     },
   )
 
-  pub enrolled-answers : {ts₁ ms₁ ts₂ : List ℕ} → OthersSeated (t .0) rs ts ms (p .chain .place) (p .chain .seat) ts₁ ms₁ (p .m)
+  pub enrolled-answers : {ts₁ ms₁ ts₂ : List ℕ} → OthersSeated (t .0) rs ts ms (p .chain .place)
+      (p .chain .seat) ts₁ ms₁ (p .m)
       (p .chain .others) → (r i : ℕ) → i ≡ getD (p .chain .seat) 0 0 → r ≡ relayNumber rs i
       → WroteTablets ts₁ ts₂ (p .m + 1) (insert (t .0) r (tabletsIn ts₁ (p .m)))
       → Answers (after s rs ts ms (Enrol t)) (replied Done r (p .chain .steps) (p .chain .others)) (lists rs ts₂ ms₁)
@@ -68,7 +71,8 @@ module _ {s : ℕ} {rs ts ms : List ℕ} {t : TabletNumber} {p : Enrolment} (pl 
       let entries : tabletsIn ts₂ (p .m + 1) ≡ Calls.after (positions s) (ringOf rs ts) (Enrol t) .tablets =
       wrote .entries ∙ ap (λ (z : ℕ). insert (t .0) z (tabletsIn ts₁ (p .m))) relay
       ∙ ap (insert (t .0) (relayNumber rs (getD (p .chain .seat) 0 0))) (sd .entries)
-      ∙ sym (seated-insert others (t .0) (w .above) (t .0) (relayNumber rs (getD (p .chain .seat) 0 0)) (omega arith) (tabletsIn ts (p .m)))
+      ∙ sym (seated-insert others (t .0) (w .above) (t .0) (relayNumber rs (getD (p .chain .seat) 0 0)) (omega arith)
+      (tabletsIn ts (p .m)))
       ∙ sym (w .tablets) in
       let whole : WroteTablets ts ts₂ (p .m + 1) (Calls.after (positions s) (ringOf rs ts) (Enrol t) .tablets) =
       record {
@@ -80,7 +84,8 @@ module _ {s : ℕ} {rs ts ms : List ℕ} {t : TabletNumber} {p : Enrolment} (pl 
       } in
       accepted-answers s rs ts ms (Enrol t) (sym (pl .refusal) ∙ done-is (p .refusal) d) _ rs ts₂ ms₁
       (λ k. replied Done ((relay ∙ sym (w .relay)) k) (sym (w .passed) k)
-      ((sym (length-others (t .0) rs ts (p .chain .place) (p .chain .seat) (p .chain .others)) ∙ ap length (sym (w .moves))) k))
+      ((sym (length-others (t .0) rs ts (p .chain .place) (p .chain .seat) (p .chain .others))
+      ∙ ap length (sym (w .moves))) k))
       (w .relays)
       (tablets-table whole (w .whole) (omega (arith, w .unused)) (zeros-behind (p .m + 1) (omega arith) (w .zeros)))
       (sd .list ∙ ap (λ (z : List Move). listed z ms) (sym (w .moves)))

@@ -46,7 +46,8 @@ fn seat_others(
     others: usize,
 )
     requires { ⌜ Seatable (now relays) (now tablets) (now moves) (now place) (now seat) m others ⌝ }
-    ensures { λ _. ⌜ ((x : ℕ) → OthersSeated x (now (relays .entry)) (now (tablets .entry)) (now (moves .entry)) (now (place .entry))
+    ensures { λ _. ⌜ ((x : ℕ) → OthersSeated x (now (relays .entry)) (now (tablets .entry)) (now (moves .entry))
+        (now (place .entry))
         (now (seat .entry)) (now (tablets .exit)) (now (moves .exit)) m others) ⌝ }
 {
     let mut c: usize = 0;
@@ -68,7 +69,8 @@ pub fn enrol(
     moves: &mut [u32],
     t: ring::TabletNumber,
 ) -> rule::Reply
-    ensures { λ reply. ⌜ Answers (after scheme (now (relays .entry)) (now (tablets .entry)) (now (moves .entry)) (Enrol t))
+    ensures { λ reply. ⌜ Answers (after scheme (now (relays .entry)) (now (tablets .entry)) (now (moves .entry))
+        (Enrol t))
         reply (lists (now (relays .entry)) (now (tablets .exit)) (now (moves .exit))) ⌝ }
 {
     let p = newcomer::prepare(scheme, relays, tablets, moves.len() / 3, t);

@@ -34,7 +34,9 @@ module _ {ts : List ℕ} {m : ℕ} {b : Bool} (t : TabletEntries ts b m) where
   unfolding right
   tablets-wrong p rs h = rw (sym (t .test) ∙ not-true b h) (and-false (relayShape rs (relaysUsed rs)))
 
-  pub placed-test : (p : Positions) {rs : List ℕ} {n : ℕ} {a : Bool} → RelayEntries rs a n → not a ≡ false → not b ≡ false → placed p rs ts n m ≡ right p rs ts
+  pub placed-test : (p : Positions) {rs : List ℕ} {n : ℕ} {a : Bool} → RelayEntries rs a n → not a ≡ false
+      → not b ≡ false → placed p rs ts n m ≡ right p rs ts
   unfolding right
   placed-test p {rs} {n} {a} r ha hb =
-      rw (sym (r .test) ∙ not-false a ha, sym (t .test) ∙ not-false b hb) (ap₂ (placed p rs ts) (r .count (not-false a ha)) (t .count (not-false b hb)))
+      rw (sym (r .test) ∙ not-false a ha, sym (t .test) ∙ not-false b hb)
+      (ap₂ (placed p rs ts) (r .count (not-false a ha)) (t .count (not-false b hb)))

@@ -13,7 +13,8 @@ use Rattle.tables.specs.Placement.{right}
 use Rattle.entries.proofs.Found.{relays-found, tablets-found, placed-test}
 use Rattle.entries.specs.Entries.{RelayEntries, TabletEntries, ShapesOf}
 
-pub no-shapes-are : {rs ts : List ℕ} {fine : Bool} {n m : ℕ} → (fine ≡ false) × (n ≡ 0) × (m ≡ 0) → ((p : Positions) → right p rs ts ≡ false) → ShapesOf rs ts fine n m
+pub no-shapes-are : {rs ts : List ℕ} {fine : Bool} {n m : ℕ} → (fine ≡ false) × (n ≡ 0) × (m ≡ 0)
+    → ((p : Positions) → right p rs ts ≡ false) → ShapesOf rs ts fine n m
 no-shapes-are e w = record {
   relaysFit = record { few = omega (arith, e .1); there = omega (arith, e .1) };
   tabletsFit = record { few = omega (arith, e .2); there = omega (arith, e .2) };
@@ -23,7 +24,8 @@ no-shapes-are e w = record {
   test = λ t. absurd (false≢true (sym (e .0) ∙ t));
 }
 
-pub shapes-are : {rs ts : List ℕ} {a b : Bool} {n m : ℕ} → RelayEntries rs a n → TabletEntries ts b m → not a ≡ false → not b ≡ false → ShapesOf rs ts true n m
+pub shapes-are : {rs ts : List ℕ} {a b : Bool} {n m : ℕ} → RelayEntries rs a n → TabletEntries ts b m → not a ≡ false
+    → not b ≡ false → ShapesOf rs ts true n m
 shapes-are {a = a} {b} r t ha hb = record {
   relaysFit = relays-found r ha;
   tabletsFit = tablets-found t hb;

@@ -27,7 +27,8 @@ fn unused_place(number: u32, beside: u32) -> bool
 // Are the first n places entries?
 fn relays_rise(relays: &[u32], n: usize) -> bool
     requires { ⌜ n ≤ relayPlaces (now relays) ⌝ }
-    ensures { λ r. ⌜ r ≡ all (entryAt mostLimit (relayNumber (now (relays .entry))) (relayLimit (now (relays .entry)))) n ⌝ }
+    ensures { λ r. ⌜ r ≡ all (entryAt mostLimit (relayNumber (now (relays .entry))) (relayLimit (now (relays .entry))))
+        n ⌝ }
 {
     let mut ok = true;
     let mut before: u32 = 0;
@@ -45,7 +46,8 @@ fn relays_rise(relays: &[u32], n: usize) -> bool
 // Are the places behind the first n unused?
 fn relays_end(relays: &[u32], n: usize) -> bool
     requires { ⌜ n ≤ relayPlaces (now relays) ⌝ }
-    ensures { λ r. ⌜ r ≡ all (unusedAt (relayNumber (now (relays .entry))) (relayLimit (now (relays .entry))) n) (relayPlaces (now (relays .entry)) - n) ⌝ }
+    ensures { λ r. ⌜ r ≡ all (unusedAt (relayNumber (now (relays .entry))) (relayLimit (now (relays .entry))) n)
+        (relayPlaces (now (relays .entry)) - n) ⌝ }
 {
     let left = tables::relay_places(relays) - n;
     let mut ok = true;
@@ -80,7 +82,8 @@ pub fn relay_shape(relays: &[u32], n: usize) -> bool
 // Are the first m places entries?
 fn tablets_rise(tablets: &[u32], m: usize) -> bool
     requires { ⌜ m ≤ tabletPlaces (now tablets) ⌝ }
-    ensures { λ r. ⌜ r ≡ all (entryAt topNumber (tabletNumber (now (tablets .entry))) (tabletRelay (now (tablets .entry)))) m ⌝ }
+    ensures { λ r. ⌜ r ≡ all (entryAt topNumber (tabletNumber (now (tablets .entry)))
+        (tabletRelay (now (tablets .entry)))) m ⌝ }
 {
     let mut ok = true;
     let mut before: u32 = 0;
@@ -98,7 +101,8 @@ fn tablets_rise(tablets: &[u32], m: usize) -> bool
 // Are the places behind the first m unused?
 fn tablets_end(tablets: &[u32], m: usize) -> bool
     requires { ⌜ m ≤ tabletPlaces (now tablets) ⌝ }
-    ensures { λ r. ⌜ r ≡ all (unusedAt (tabletNumber (now (tablets .entry))) (tabletRelay (now (tablets .entry))) m) (tabletPlaces (now (tablets .entry)) - m) ⌝ }
+    ensures { λ r. ⌜ r ≡ all (unusedAt (tabletNumber (now (tablets .entry))) (tabletRelay (now (tablets .entry))) m)
+        (tabletPlaces (now (tablets .entry)) - m) ⌝ }
 {
     let left = tables::tablet_places(tablets) - m;
     let mut ok = true;

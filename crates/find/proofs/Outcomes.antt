@@ -48,13 +48,22 @@ module _ {s : ℕ} {rs ts : List ℕ} {n m : ℕ} {v : Survey} (b : Start s rs t
     accepts : refusal (positions s) (lentOf s rs ts ms) (ringOf rs ts) (Find t) ≡ Done
     unfolding edited
     accepts =
-        all-passed s rs ts ms (Find t) b (ap isDone (missing-find b t (lentOf s rs ts ms) ∙ sym (f .refusal)) ∙ fine) (right .enough)
+        all-passed s rs ts ms (Find t) b (ap isDone (missing-find b t (lentOf s rs ts ms) ∙ sym (f .refusal)) ∙ fine)
+        (right .enough)
         (rw no-moves (omega arith))
 
-    pub find-found : Answers (after s rs ts ms (Find t)) (replied Done (seat .relay .0) (seat .passed) 0) (lists rs ts ms)
+    pub find-found : Answers (after s rs ts ms (Find t)) (replied Done (seat .relay .0) (seat .passed) 0)
+        (lists rs ts ms)
     find-found =
         accepted-answers s rs ts ms (Find t) accepts _ rs ts ms
-        (unfold accepted relayOf passed in (rw (found-relay b t (f .found fine), found-passed b t (f .found fine), no-moves)))
-        (relays-stay b (Calls.after (positions s) ring (Find t)) (unfold Calls.after edited in (ap (λ (g : Ring). g .relays) (start-ring b))))
-        (tablets-stay b (Calls.after (positions s) ring (Find t)) (find-after (positions s) ring right t ∙ ap (λ (g : Ring). g .tablets) (start-ring b)))
+        (unfold accepted relayOf passed in (rw (
+          found-relay b t (f .found fine),
+          found-passed b t
+              (f .found fine),
+          no-moves,
+        )))
+        (relays-stay b (Calls.after (positions s) ring (Find t))
+        (unfold Calls.after edited in (ap (λ (g : Ring). g .relays) (start-ring b))))
+        (tablets-stay b (Calls.after (positions s) ring (Find t))
+        (find-after (positions s) ring right t ∙ ap (λ (g : Ring). g .tablets) (start-ring b)))
         (listed-none ms ∙ ap (λ (k : List Move). listed k ms) (sym no-moves))

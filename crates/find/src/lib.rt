@@ -8,7 +8,8 @@ ghost use Rattle.call_start.specs.Promise.{lists, after};
 // The tablet's relay, and how many relays come before it in the tablet's clockwise order. A find makes no moves, so the promise
 // holds of every move list.
 pub fn find(scheme: u32, relays: &[u32], tablets: &[u32], t: ring::TabletNumber) -> rule::Reply
-    ensures { λ reply. ⌜ ((moves : List ℕ) → Answers (after scheme (now (relays .entry)) (now (tablets .entry)) moves (Find t))
+    ensures { λ reply. ⌜ ((moves : List ℕ) → Answers
+        (after scheme (now (relays .entry)) (now (tablets .entry)) moves (Find t))
         reply (lists (now (relays .entry)) (now (tablets .entry)) moves)) ⌝ }
 {
     let l = call_start::look(scheme, relays, tablets);

@@ -62,7 +62,8 @@ module _ (es : List Entry) (len : ℕ) (room : length es ≤ len / 2) (whole : l
 
   length-filled : length (filled len (flat es)) ≡ len
   unfolding filled
-  length-filled = omega (arith, length-append (flat es) rest, length-replicate {A = ℕ} (len - length (flat es)) 0, length-flat es)
+  length-filled =
+      omega (arith, length-append (flat es) rest, length-replicate {A = ℕ} (len - length (flat es)) 0, length-flat es)
 
   front : (i : ℕ) → i < 2 * length es → getD (filled len (flat es)) i 0 ≡ getD (flat es) i 0
   unfolding filled
@@ -73,23 +74,29 @@ module _ (es : List Entry) (len : ℕ) (room : length es ≤ len / 2) (whole : l
   behind i h k =
       let j : ℕ = i - length (flat es) in
       let a : i ≡ length (flat es) + j = omega (arith, length-flat es) in
-      rw a (getD-append-add (flat es) rest j 0 ∙ getD-replicate (len - length (flat es)) j 0 0 (omega (arith, length-flat es)))
+      rw a (getD-append-add (flat es) rest j 0 ∙ getD-replicate (len - length (flat es)) j 0 0
+      (omega (arith, length-flat es)))
 
   entries-again : places (firstOf (filled len (flat es))) (secondOf (filled len (flat es))) (length es) ≡ es
   entries-again =
-      places-ext (firstOf (filled len (flat es))) (secondOf (filled len (flat es))) (firstOf (flat es)) (secondOf (flat es)) (length es)
+      places-ext (firstOf (filled len (flat es))) (secondOf (filled len (flat es))) (firstOf (flat es))
+      (secondOf (flat es)) (length es)
       (λ i h. front (2 * i) (omega arith)) (λ i h. front (2 * i + 1) (omega arith))
       ∙ flat-places es
 
-  zeros-again : (i : ℕ) → length es ≤ i → i < len / 2 → (firstOf (filled len (flat es)) i ≡ 0) × (secondOf (filled len (flat es)) i ≡ 0)
+  zeros-again : (i : ℕ) → length es ≤ i → i < len / 2 → (firstOf (filled len (flat es)) i ≡ 0)
+      × (secondOf (filled len (flat es)) i ≡ 0)
   zeros-again i h k = (behind (2 * i) (omega arith) (omega arith), behind (2 * i + 1) (omega arith) (omega arith))
 
   module _ (t : Table es) where
     ascending-again : Ascending (firstOf (filled len (flat es))) (length es)
-    ascending-again = places-table (firstOf (filled len (flat es))) (secondOf (filled len (flat es))) (length es) (rw entries-again t)
+    ascending-again =
+        places-table (firstOf (filled len (flat es))) (secondOf (filled len (flat es))) (length es) (rw entries-again t)
 
     used-again : used (firstOf (filled len (flat es))) (len / 2) ≡ length es
-    used-again = used-is (firstOf (filled len (flat es))) (length es) (ascending-again .numbered) (len / 2) room (λ i h k. zeros-again i h k .0)
+    used-again =
+        used-is (firstOf (filled len (flat es))) (length es) (ascending-again .numbered) (len / 2) room
+        (λ i h k. zeros-again i h k .0)
 
     -- as long as it is to be, with as many places in use as there are entries, these entries in them, and zeros behind
     table-again : Again (filled len (flat es)) es len
@@ -98,7 +105,8 @@ module _ (es : List Entry) (len : ℕ) (room : length es ≤ len / 2) (whole : l
           size = length-filled;
           entries = rw (length-filled, used-again) entries-again;
           rest = rw (length-filled, used-again)
-              (rest-from (firstOf (filled len (flat es))) (secondOf (filled len (flat es))) (length es) (len / 2) zeros-again);
+              (rest-from (firstOf (filled len (flat es))) (secondOf (filled len (flat es))) (length es)
+              (len / 2) zeros-again);
         }
 
 -- ---- the two tables of a ring
@@ -107,11 +115,13 @@ even : (rs : List ℕ) (most : ℕ) → (eqb (length rs % 2) 0 && leb (length rs
 even rs most h = eqb-true (length rs % 2) 0 (and-left (eqb (length rs % 2) 0) (leb (length rs / 2) most) h)
 
 -- whole places and not too many, in a list of the same length
-fits-again : (rs l : List ℕ) (most : ℕ) → length l ≡ length rs → (eqb (length rs % 2) 0 && leb (length rs / 2) most) ≡ true
+fits-again : (rs l : List ℕ) (most : ℕ) → length l ≡ length rs → (eqb (length rs % 2) 0 && leb (length rs / 2) most)
+    ≡ true
     → (eqb (length l % 2) 0 && leb (length l / 2) most) ≡ true
 fits-again rs l most e h = rw e h
 
-module _ (rs ts : List ℕ) (g : Ring) (relays-fit : relayFits rs ≡ true) (tablets-fit : tabletFits ts ≡ true) (relays : Table (g .relays)) (tablets : Table (g .tablets))
+module _ (rs ts : List ℕ) (g : Ring) (relays-fit : relayFits rs ≡ true) (tablets-fit : tabletFits ts ≡ true)
+    (relays : Table (g .relays)) (tablets : Table (g .tablets))
     (relaysRoom : length (g .relays) ≤ relayPlaces rs) (tabletsRoom : length (g .tablets) ≤ tabletPlaces ts) where
   abbrev rs′ : List ℕ
   rs′ = relayTable (length rs) g
@@ -132,9 +142,15 @@ module _ (rs ts : List ℕ) (g : Ring) (relays-fit : relayFits rs ≡ true) (tab
   ring-again = λ i. record { relays = relays-again .entries i; tablets = tablets-again .entries i }
 
   pub fit-again : fitTables rs′ ts′ ≡ true
-  unfolding fitTables relayFits relayWhole relaysUsed relayPlaces relayNumber relayLimit tabletFits tabletWhole tabletsUsed tabletPlaces tabletNumber tabletRelay
+  unfolding fitTables relayFits relayWhole relaysUsed relayPlaces relayNumber relayLimit tabletFits tabletWhole
+      tabletsUsed tabletPlaces tabletNumber tabletRelay
   fit-again =
-      rw (fits-again rs rs′ mostRelays (relays-again .size) relays-fit, fits-again ts ts′ mostTablets (tablets-again .size) tablets-fit, relays-again .rest)
+      rw (
+        fits-again rs rs′ mostRelays (relays-again .size) relays-fit,
+        fits-again ts ts′ mostTablets
+            (tablets-again .size) tablets-fit,
+        relays-again .rest,
+      )
       (tablets-again .rest)
 
   pub lengths-again : (length rs′ ≡ length rs) × (length ts′ ≡ length ts)

@@ -68,7 +68,8 @@ module _ (s : ℕ) (rs ts ms : List ℕ) (c : Call) where
   module _ (tally : List ℕ) where
     untouched : isDone (a .reply .refusal) ≡ false → Untouched rs ts ms tally a (tallied tally c (a .reply))
     untouched f =
-        let e : a ≡ record { reply = bareReply (Calls.refusal p lent g c); lent = lists rs ts ms } = after-declined s rs ts ms c (ap isDone (sym (call-refusal s rs ts ms c)) ∙ f) in
+        let e : a ≡ record { reply = bareReply (Calls.refusal p lent g c); lent = lists rs ts ms } = after-declined s rs
+        ts ms c (ap isDone (sym (call-refusal s rs ts ms c)) ∙ f) in
         record {
           reply = ap (λ (x : After Reply (Lists ℕ)). x .reply) e ∙ ap bareReply (sym (call-refusal s rs ts ms c));
           relays = ap (λ (x : After Reply (Lists ℕ)). x .lent .relays) e;
@@ -81,7 +82,8 @@ module _ (s : ℕ) (rs ts ms : List ℕ) (c : Call) where
     pub demand-1 : Demand1 s rs ts ms tally c
     demand-1 =
         record {
-          number = subst (Lowest numberOf (bars p lent g c)) (sym (call-refusal s rs ts ms c)) (refusal-lowest p lent g c);
+          number = subst (Lowest numberOf (bars p lent g c)) (sym (call-refusal s rs ts ms c))
+              (refusal-lowest p lent g c);
           refused = untouched;
         }
 
@@ -101,7 +103,8 @@ listed-rest : (ms : List Move) (list : List ℕ) → drop (3 * length ms) (liste
 unfolding listed
 listed-rest ms list =
     let n : 3 * length ms ≡ length (flatMoves ms) + 0 = omega (arith, length-moves ms) in
-    ap (λ (k : ℕ). drop k (flatMoves ms ++ drop (3 * length ms) list)) n ∙ drop-append-add (flatMoves ms) (drop (3 * length ms) list) 0
+    ap (λ (k : ℕ). drop k (flatMoves ms ++ drop (3 * length ms) list)) n
+    ∙ drop-append-add (flatMoves ms) (drop (3 * length ms) list) 0
 
 module _ (s : ℕ) (rs ts ms : List ℕ) (c : Call) (small : Calls.subject c < 2 ^ 32) where
   abbrev h : Ring
@@ -113,9 +116,12 @@ module _ (s : ℕ) (rs ts ms : List ℕ) (c : Call) (small : Calls.subject c < 2
   pub demand-2 : isDone (after s rs ts ms c .reply .refusal) ≡ true → Demand2 s rs ts ms c (after s rs ts ms c)
   unfolding written Calls.accepted lentOf
   demand-2 f =
-      let d : isDone (Calls.refusal (positions s) (lentOf s rs ts ms) (ringOf rs ts) c) ≡ true = ap isDone (sym (call-refusal s rs ts ms c)) ∙ f in
-      let st : Stands s rs ts h (after s rs ts ms c .lent .relays) (after s rs ts ms c .lent .tablets) = call-stands s rs ts ms c d small in
-      let e : after s rs ts ms c ≡ written listed rs ts ms (Calls.accepted (positions s) (ringOf rs ts) c) = after-accepted s rs ts ms c d in
+      let d : isDone (Calls.refusal (positions s) (lentOf s rs ts ms) (ringOf rs ts) c)
+      ≡ true = ap isDone (sym (call-refusal s rs ts ms c)) ∙ f in
+      let st : Stands s rs ts h (after s rs ts ms c .lent .relays) (after s rs ts ms c .lent .tablets) = call-stands s
+      rs ts ms c d small in
+      let e : after s rs ts ms c ≡ written listed rs ts ms
+      (Calls.accepted (positions s) (ringOf rs ts) c) = after-accepted s rs ts ms c d in
       let er : after s rs ts ms c .reply .moves ≡ length l = ap (λ (x : After Reply (Lists ℕ)). x .reply .moves) e in
       let em : after s rs ts ms c .lent .moves ≡ listed l ms = ap (λ (x : After Reply (Lists ℕ)). x .lent .moves) e in
       let fits : length l ≤ length ms / 3 = accepted-is (positions s) (lentOf s rs ts ms) (ringOf rs ts) c d .list in
@@ -139,7 +145,9 @@ module _ (s : ℕ) (rs₁ ts₁ rs₂ ts₂ : List ℕ) where
   abbrev g₂ : Ring
   g₂ = ringOf rs₂ ts₂
 
-  pub demand-3 : tablesRight s rs₁ ts₁ ≡ true → tablesRight s rs₂ ts₂ ≡ true → Roomier g₁ g₂ → (t : ℕ) → has (g₂ .tablets) t ≡ true
-      → (besideOf (g₂ .tablets) t ≡ besideOf (g₁ .tablets) t) ⊎ (sooner (positions s) t (besideOf (g₂ .tablets) t) (besideOf (g₁ .tablets) t) ≡ true)
+  pub demand-3 : tablesRight s rs₁ ts₁ ≡ true → tablesRight s rs₂ ts₂ ≡ true → Roomier g₁ g₂ → (t : ℕ)
+      → has (g₂ .tablets) t ≡ true
+      → (besideOf (g₂ .tablets) t ≡ besideOf (g₁ .tablets) t) ⊎
+      (sooner (positions s) t (besideOf (g₂ .tablets) t) (besideOf (g₁ .tablets) t) ≡ true)
   demand-3 ok₁ ok₂ more t h =
       Demand3.demand-3 (positions s) g₁ g₂ (right-ruled rs₁ ts₁ s ok₁) (right-ruled rs₂ ts₂ s ok₂) more t h

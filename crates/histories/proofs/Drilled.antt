@@ -38,5 +38,16 @@ answered m (c ∷ cs) =
 
 pub drill-lent : (drop 3 (answered Drilled.blank Drilled.drillSteps) ≡ map (λ (c : Drill.Case). c .answer) Drill.drill)
     × (calledAll Drilled.blank Drilled.drillSteps .tally ≡ Drilled.drillTally)
-unfolding answered standing called calledAll Drilled.blank Drilled.drillCalls Drilled.drillSteps Drilled.drillTally Promise.after Promise.left Promise.written Promised.settled Promise.outcomeOf Meaning.lentOf Meaning.ringOf Meaning.places Meaning.fitTables Meaning.restUnused Shape.relaysUsed Shape.tabletsUsed Shape.used Shape.relayFits Shape.tabletFits Shape.all Shape.unused Table.relayPlaces Table.relayNumber Table.relayLimit Table.relayWhole Table.tabletPlaces Table.tabletNumber Table.tabletRelay Table.tabletWhole Tables.flat Tables.filled Tables.relayTable Tables.tabletTable Tables.flatMoves Tables.listed Counted.tallyOf Counted.counts Counted.tallied Tally.more Tally.counted Scheme.known Scheme.positions Scheme.position Clockwise.clockwise Clockwise.distance Clockwise.sooner Entry.numbers Entry.has Entry.besideOf Entry.insert Entry.delete Entry.put Entry.total Entry.count Entry.load Entry.first Entry.upTo Order.queued Order.order Rule.full Rule.hasRoom Rule.seat Rule.seatAll Rule.placement Rule.rising Rule.limitsFit Rule.same Rule.isJust Rule.right Refusals.isDone Refusals.firstBar Calls.edited Calls.orNobody Calls.after Calls.moved Calls.moves Calls.aheadOf Calls.fullAhead Calls.passed Calls.relayOf Calls.wrongNumbers Calls.refusal Calls.accepted Calls.declined Calls.outcome Drill.replies Drill.drill
+unfolding answered standing called calledAll Drilled.blank Drilled.drillCalls Drilled.drillSteps Drilled.drillTally
+    Promise.after Promise.left Promise.written Promised.settled Promise.outcomeOf Meaning.lentOf Meaning.ringOf
+    Meaning.places Meaning.fitTables Meaning.restUnused Shape.relaysUsed Shape.tabletsUsed Shape.used Shape.relayFits
+    Shape.tabletFits Shape.all Shape.unused Table.relayPlaces Table.relayNumber Table.relayLimit Table.relayWhole
+    Table.tabletPlaces Table.tabletNumber Table.tabletRelay Table.tabletWhole Tables.flat Tables.filled
+    Tables.relayTable Tables.tabletTable Tables.flatMoves Tables.listed Counted.tallyOf Counted.counts Counted.tallied
+    Tally.more Tally.counted Scheme.known Scheme.positions Scheme.position Clockwise.clockwise Clockwise.distance
+    Clockwise.sooner Entry.numbers Entry.has Entry.besideOf Entry.insert Entry.delete Entry.put Entry.total Entry.count
+    Entry.load Entry.first Entry.upTo Order.queued Order.order Rule.full Rule.hasRoom Rule.seat Rule.seatAll
+    Rule.placement Rule.rising Rule.limitsFit Rule.same Rule.isJust Rule.right Refusals.isDone Refusals.firstBar
+    Calls.edited Calls.orNobody Calls.after Calls.moved Calls.moves Calls.aheadOf Calls.fullAhead Calls.passed
+    Calls.relayOf Calls.wrongNumbers Calls.refusal Calls.accepted Calls.declined Calls.outcome Drill.replies Drill.drill
 drill-lent = (refl, refl)

@@ -39,48 +39,58 @@ module _ (rs ts : List ℕ) (fits : Tables.Fit rs ts) where
   tablets-stay : ts ≡ tabletTable (length ts) (ringOf rs ts)
   unfolding tabletTable ringOf tabletsUsed
   tablets-stay =
-      tablets-filled ts (tabletsUsed ts) (whole-tablets ts (fits .tablets) .0) (used-most (tabletNumber ts) (tabletPlaces ts))
+      tablets-filled ts (tabletsUsed ts) (whole-tablets ts (fits .tablets) .0)
+      (used-most (tabletNumber ts) (tabletPlaces ts))
       (rest-zeros (tabletNumber ts) (tabletRelay ts) (tabletsUsed ts) (tabletPlaces ts) (fits .tabletsRest))
 
 -- ---- history plays no part
 
 module _ (s : ℕ) (rs₁ ts₁ rs₂ ts₂ : List ℕ) where
-  pub same-numbers : tablesRight s rs₁ ts₁ ≡ true → tablesRight s rs₂ ts₂ ≡ true → length rs₁ ≡ length rs₂ → length ts₁ ≡ length ts₂
+  pub same-numbers : tablesRight s rs₁ ts₁ ≡ true → tablesRight s rs₂ ts₂ ≡ true → length rs₁ ≡ length rs₂ → length ts₁
+      ≡ length ts₂
       → SameSets (ringOf rs₁ ts₁) (ringOf rs₂ ts₂) → (rs₁ ≡ rs₂) × (ts₁ ≡ ts₂)
   same-numbers ok₁ ok₂ er et same =
       let f₁ : Tables.Fit rs₁ ts₁ = right-fit rs₁ ts₁ s ok₁ in
       let f₂ : Tables.Fit rs₂ ts₂ = right-fit rs₂ ts₂ s ok₂ in
       let e : ringOf rs₁ ts₁ ≡ ringOf rs₂ ts₂ =
-      same-tables (positions s) (ringOf rs₁ ts₁) (ringOf rs₂ ts₂) (right-ruled rs₁ ts₁ s ok₁) (right-ruled rs₂ ts₂ s ok₂) same in
-      (relays-stay rs₁ ts₁ f₁ ∙ ap₂ relayTable er e ∙ sym (relays-stay rs₂ ts₂ f₂), tablets-stay rs₁ ts₁ f₁ ∙ ap₂ tabletTable et e ∙ sym (tablets-stay rs₂ ts₂ f₂))
+      same-tables (positions s) (ringOf rs₁ ts₁) (ringOf rs₂ ts₂) (right-ruled rs₁ ts₁ s ok₁)
+      (right-ruled rs₂ ts₂ s ok₂) same in (
+        relays-stay rs₁ ts₁ f₁ ∙ ap₂ relayTable er e ∙ sym (relays-stay rs₂ ts₂ f₂),
+        tablets-stay rs₁ ts₁ f₁
+            ∙ ap₂ tabletTable et e ∙ sym (tablets-stay rs₂ ts₂ f₂),
+      )
 
 run-lengths : (m : Memory) (cs : List Step) → Small cs
     → (length (calledAll m cs .relays) ≡ length (m .relays)) × (length (calledAll m cs .tablets) ≡ length (m .tablets))
 unfolding calledAll called
 run-lengths m [] f = (refl, refl)
 run-lengths m (c ∷ cs) f =
-    let l : (length (calledAll (called m c) cs .relays) ≡ length (called m c .relays)) × (length (calledAll (called m c) cs .tablets) ≡ length (called m c .tablets)) =
+    let l : (length (calledAll (called m c) cs .relays) ≡ length (called m c .relays))
+    × (length (calledAll (called m c) cs .tablets) ≡ length (called m c .tablets)) =
     run-lengths (called m c) cs (f .1) in
     let k : (length (called m c .relays) ≡ length (m .relays)) × (length (called m c .tablets) ≡ length (m .tablets)) =
     call-lengths (c .scheme) (m .relays) (m .tablets) (c .moves) (c .call) (f .0) in
     (l .0 ∙ k .0, l .1 ∙ k .1)
 
 module _ (s : ℕ) (m₁ m₂ : Memory) (cs₁ cs₂ : List Step) (small₁ : Small cs₁) (small₂ : Small cs₂)
-    (ok₁ : tablesRight s (m₁ .relays) (m₁ .tablets) ≡ true) (ok₂ : tablesRight s (m₂ .relays) (m₂ .tablets) ≡ true) where
-  abbrev end₁ : Memory
-  end₁ = calledAll m₁ cs₁
+    (ok₁ : tablesRight s (m₁ .relays) (m₁ .tablets) ≡ true) (ok₂ : tablesRight s (m₂ .relays) (m₂ .tablets) ≡ true)
+  where
+    abbrev end₁ : Memory
+    end₁ = calledAll m₁ cs₁
 
-  abbrev end₂ : Memory
-  end₂ = calledAll m₂ cs₂
+    abbrev end₂ : Memory
+    end₂ = calledAll m₂ cs₂
 
-  pub run-free : goneBy s m₁ cs₁ ≡ goneBy s m₂ cs₂ → length (m₁ .relays) ≡ length (m₂ .relays) → length (m₁ .tablets) ≡ length (m₂ .tablets)
-      → SameSets (ringOf (end₁ .relays) (end₁ .tablets)) (ringOf (end₂ .relays) (end₂ .tablets))
-      → (end₁ .relays ≡ end₂ .relays) × (end₁ .tablets ≡ end₂ .tablets)
-  run-free by er et same =
-      same-numbers (goneBy s m₂ cs₂) (end₁ .relays) (end₁ .tablets) (end₂ .relays) (end₂ .tablets) (rw (← by) (run-right s m₁ cs₁ small₁ ok₁)) (run-right s m₂ cs₂ small₂ ok₂)
-      (run-lengths m₁ cs₁ small₁ .0 ∙ er ∙ sym (run-lengths m₂ cs₂ small₂ .0))
-      (run-lengths m₁ cs₁ small₁ .1 ∙ et ∙ sym (run-lengths m₂ cs₂ small₂ .1))
-      same
+    pub run-free : goneBy s m₁ cs₁ ≡ goneBy s m₂ cs₂ → length (m₁ .relays) ≡ length (m₂ .relays) → length (m₁ .tablets)
+        ≡ length (m₂ .tablets)
+        → SameSets (ringOf (end₁ .relays) (end₁ .tablets)) (ringOf (end₂ .relays) (end₂ .tablets))
+        → (end₁ .relays ≡ end₂ .relays) × (end₁ .tablets ≡ end₂ .tablets)
+    run-free by er et same =
+        same-numbers (goneBy s m₂ cs₂) (end₁ .relays) (end₁ .tablets) (end₂ .relays) (end₂ .tablets)
+        (rw (← by) (run-right s m₁ cs₁ small₁ ok₁)) (run-right s m₂ cs₂ small₂ ok₂)
+        (run-lengths m₁ cs₁ small₁ .0 ∙ er ∙ sym (run-lengths m₂ cs₂ small₂ .0))
+        (run-lengths m₁ cs₁ small₁ .1 ∙ et ∙ sym (run-lengths m₂ cs₂ small₂ .1))
+        same
 
 -- ---- loads
 
@@ -94,11 +104,13 @@ unfolding stationOf ringOf places tallyOf new
 blank-new m b = rw (b .relays, b .tablets, b .tally)
 
 pub run-loads : (m : Memory) (cs : List Step) → Small cs → Blank m → Going (tallyOf (calledAll m cs .tally))
-    → loads (ringOf (calledAll m cs .relays) (calledAll m cs .tablets) .relays) (ringOf (calledAll m cs .relays) (calledAll m cs .tablets) .tablets)
+    → loads (ringOf (calledAll m cs .relays) (calledAll m cs .tablets) .relays)
+    (ringOf (calledAll m cs .relays) (calledAll m cs .tablets) .tablets)
     + tallyOf (calledAll m cs .tally) .withdrawals ≡ tallyOf (calledAll m cs .tally) .enrolments
 unfolding stationOf
 run-loads m cs small b =
     let e : run new (stepsOf m cs) ≡ stationOf (calledAll m cs) =
     sym (run-means m cs small (ap length (b .tally)) ∙ ap (λ (t : Station). run t (stepsOf m cs)) (blank-new m b)) in
-    subst (λ (t : Station). Going (t .tally) → loads (t .ring .relays) (t .ring .tablets) + t .tally .withdrawals ≡ t .tally .enrolments) e
+    subst (λ (t : Station). Going (t .tally) → loads (t .ring .relays) (t .ring .tablets) + t .tally .withdrawals
+    ≡ t .tally .enrolments) e
     (tally-loads (stepsOf m cs) (steps-fit m cs small))

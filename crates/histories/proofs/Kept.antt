@@ -75,20 +75,30 @@ module _ (s : ℕ) (rs ts ms : List ℕ) (c : Call) where
         let tabletsRoom : length (Calls.after p g c .tablets) ≤ tabletPlaces ts =
         omega (arith, after-length p g c e (a .enough), tablets-room s rs ts ms c (a .numbers)) in
         record {
-          ring = ring-again rs ts (Calls.after p g c) (fits .relays) (fits .tablets) (r .relays) (r .tablets) relaysRoom tabletsRoom;
-          right = rw (fit-again rs ts (Calls.after p g c) (fits .relays) (fits .tablets) (r .relays) (r .tablets) relaysRoom tabletsRoom, ring-again rs ts (Calls.after p g c) (fits .relays) (fits .tablets) (r .relays) (r .tablets) relaysRoom tabletsRoom)
+          ring = ring-again rs ts (Calls.after p g c) (fits .relays) (fits .tablets) (r .relays)
+              (r .tablets) relaysRoom tabletsRoom;
+          right = rw (
+            fit-again rs ts (Calls.after p g c) (fits .relays) (fits .tablets) (r .relays)
+                (r .tablets) relaysRoom tabletsRoom,
+            ring-again rs ts (Calls.after p g c) (fits .relays) (fits .tablets)
+                (r .relays) (r .tablets) relaysRoom tabletsRoom,
+          )
               (right-from p (Calls.after p g c) r);
-          relays = lengths-again rs ts (Calls.after p g c) (fits .relays) (fits .tablets) (r .relays) (r .tablets) relaysRoom tabletsRoom .0;
-          tablets = lengths-again rs ts (Calls.after p g c) (fits .relays) (fits .tablets) (r .relays) (r .tablets) relaysRoom tabletsRoom .1;
+          relays = lengths-again rs ts (Calls.after p g c) (fits .relays) (fits .tablets) (r .relays)
+              (r .tablets) relaysRoom tabletsRoom .0;
+          tablets = lengths-again rs ts (Calls.after p g c) (fits .relays) (fits .tablets) (r .relays)
+              (r .tablets) relaysRoom tabletsRoom .1;
         }
 
-    pub call-stands : Stands s rs ts (Calls.after p g c) (after s rs ts ms c .lent .relays) (after s rs ts ms c .lent .tablets)
+    pub call-stands : Stands s rs ts (Calls.after p g c) (after s rs ts ms c .lent .relays)
+        (after s rs ts ms c .lent .tablets)
     call-stands = rw (after-accepted s rs ts ms c done) stands-accepted
 
   -- ---- any call
 
   -- what the tables mean afterwards is the outcome's ring
-  pub call-means : Calls.subject c < 2 ^ 32 → ringOf (after s rs ts ms c .lent .relays) (after s rs ts ms c .lent .tablets) ≡ outcomeOf s rs ts ms c .ring
+  pub call-means : Calls.subject c < 2 ^ 32 → ringOf (after s rs ts ms c .lent .relays)
+      (after s rs ts ms c .lent .tablets) ≡ outcomeOf s rs ts ms c .ring
   unfolding outcomeOf Calls.accepted Calls.declined
   call-means small =
       split (isDone (Calls.refusal p lent g c))
@@ -96,7 +106,8 @@ module _ (s : ℕ) (rs ts ms : List ℕ) (c : Call) where
       (λ d. rw (after-declined s rs ts ms c d, outcome-declined p lent g c d))
 
   pub call-lengths : Calls.subject c < 2 ^ 32
-      → (length (after s rs ts ms c .lent .relays) ≡ length rs) × (length (after s rs ts ms c .lent .tablets) ≡ length ts)
+      → (length (after s rs ts ms c .lent .relays) ≡ length rs)
+      × (length (after s rs ts ms c .lent .tablets) ≡ length ts)
   call-lengths small =
       split (isDone (Calls.refusal p lent g c))
       (λ d. (call-stands d small .relays, call-stands d small .tablets))

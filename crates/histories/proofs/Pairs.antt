@@ -17,10 +17,18 @@ use Rattle.meaning.specs.Meaning as Meaning
 use Rattle.meaning.specs.Meaning.{tablesRight}
 
 pub empty-right : (s : ℕ) → tablesRight s [] [] ≡ true
-unfolding tablesRight Meaning.ringOf Meaning.places Meaning.fitTables Meaning.restUnused Shape.relaysUsed Shape.tabletsUsed Shape.used Shape.relayFits Shape.tabletFits Shape.all Table.relayPlaces Table.relayWhole Table.tabletPlaces Table.tabletWhole Entry.numbers Rule.right Rule.rising Rule.limitsFit Rule.isJust Rule.same Rule.placement Rule.seatAll
+unfolding tablesRight Meaning.ringOf Meaning.places Meaning.fitTables Meaning.restUnused Shape.relaysUsed
+    Shape.tabletsUsed Shape.used Shape.relayFits Shape.tabletFits Shape.all Table.relayPlaces Table.relayWhole
+    Table.tabletPlaces Table.tabletWhole Entry.numbers Rule.right Rule.rising Rule.limitsFit Rule.isJust Rule.same
+    Rule.placement Rule.seatAll
 empty-right s = refl
 
 -- tablet 10 at relay 10
 pub one-number : tablesRight 0 (10 ∷ 1 ∷ []) (10 ∷ 10 ∷ []) ≡ true
-unfolding tablesRight Meaning.ringOf Meaning.places Meaning.fitTables Meaning.restUnused Shape.relaysUsed Shape.tabletsUsed Shape.used Shape.relayFits Shape.tabletFits Shape.all Shape.unused Table.relayPlaces Table.relayNumber Table.relayLimit Table.relayWhole Table.tabletPlaces Table.tabletNumber Table.tabletRelay Table.tabletWhole Entry.numbers Entry.load Entry.count Entry.first Rule.right Rule.rising Rule.limitsFit Rule.isJust Rule.same Rule.placement Rule.seatAll Rule.seat Rule.hasRoom Order.order Order.queued Clockwise.sooner Clockwise.distance Clockwise.clockwise Scheme.positions Scheme.position
+unfolding tablesRight Meaning.ringOf Meaning.places Meaning.fitTables Meaning.restUnused Shape.relaysUsed
+    Shape.tabletsUsed Shape.used Shape.relayFits Shape.tabletFits Shape.all Shape.unused Table.relayPlaces
+    Table.relayNumber Table.relayLimit Table.relayWhole Table.tabletPlaces Table.tabletNumber Table.tabletRelay
+    Table.tabletWhole Entry.numbers Entry.load Entry.count Entry.first Rule.right Rule.rising Rule.limitsFit Rule.isJust
+    Rule.same Rule.placement Rule.seatAll Rule.seat Rule.hasRoom Order.order Order.queued Clockwise.sooner
+    Clockwise.distance Clockwise.clockwise Scheme.positions Scheme.position
 one-number = refl

@@ -45,11 +45,14 @@ module _ (b rs ts : List ℕ) (done : isDone (refusal b rs ts) ≡ true) where
   passed : (tablesFit (relayCount b) (tabletCount b) rs ts ≡ true) × (contentRight b ≡ true)
   unfolding refusal isDone
   passed =
-      let h₁ : (not (shapeRight b) ≡ false) × (isDone (firstBar bars₂) ≡ true) = bar-passed (not (shapeRight b)) RosterShapeWrong bars₂ refl done in
-      let h₂ : (not (known (rosterScheme b)) ≡ false) × (isDone (firstBar bars₃) ≡ true) = bar-passed (not (known (rosterScheme b))) SchemeUnknown bars₃ refl (h₁ .1) in
+      let h₁ : (not (shapeRight b) ≡ false) × (isDone (firstBar bars₂) ≡ true) = bar-passed
+      (not (shapeRight b)) RosterShapeWrong bars₂ refl done in
+      let h₂ : (not (known (rosterScheme b)) ≡ false) × (isDone (firstBar bars₃) ≡ true) = bar-passed
+      (not (known (rosterScheme b))) SchemeUnknown bars₃ refl (h₁ .1) in
       let h₃ : (not (tablesFit (relayCount b) (tabletCount b) rs ts) ≡ false) × (isDone (firstBar bars₄) ≡ true) =
       bar-passed (not (tablesFit (relayCount b) (tabletCount b) rs ts)) OutputUnfit bars₄ refl (h₂ .1) in
-      let h₄ : (not (contentRight b) ≡ false) × (isDone (firstBar []) ≡ true) = bar-passed (not (contentRight b)) RosterContentWrong [] refl (h₃ .1) in
+      let h₄ : (not (contentRight b) ≡ false) × (isDone (firstBar []) ≡ true) = bar-passed
+      (not (contentRight b)) RosterContentWrong [] refl (h₃ .1) in
       (not-false (tablesFit (relayCount b) (tabletCount b) rs ts) (h₃ .0), not-false (contentRight b) (h₄ .0))
 
   abbrev g : Rule.Ring
@@ -75,18 +78,30 @@ module _ (b rs ts : List ℕ) (done : isDone (refusal b rs ts) ≡ true) where
   relays-room : length (g .relays) ≤ relayPlaces rs
   unfolding rosterRing
   relays-room =
-      omega (arith, block-length b (length b - relayDistance b) (relayCount b), leb-true (relayCount b) (relayPlaces rs) (and-left enoughRelays enoughTablets (and-right (tabletFits ts) (enoughRelays && enoughTablets) rest)))
+      omega (
+        arith,
+        block-length b (length b - relayDistance b) (relayCount b),
+        leb-true (relayCount b) (relayPlaces rs)
+            (and-left enoughRelays enoughTablets (and-right (tabletFits ts) (enoughRelays && enoughTablets) rest)),
+      )
 
   tablets-room : length (g .tablets) ≤ tabletPlaces ts
   unfolding rosterRing
   tablets-room =
-      omega (arith, block-length b (length b - tabletDistance b) (tabletCount b), leb-true (tabletCount b) (tabletPlaces ts) (and-right enoughRelays enoughTablets (and-right (tabletFits ts) (enoughRelays && enoughTablets) rest)))
+      omega (
+        arith,
+        block-length b (length b - tabletDistance b) (tabletCount b),
+        leb-true (tabletCount b)
+            (tabletPlaces ts) (and-right enoughRelays enoughTablets
+            (and-right (tabletFits ts) (enoughRelays && enoughTablets) rest)),
+      )
 
   ruled : Rule.right (positions (rosterScheme b)) g ≡ true
   unfolding contentRight ringRight
   ruled =
       and-right (numbered (g .tablets)) (Rule.right (positions (rosterScheme b)) g)
-      (and-right (numbered (g .relays)) (numbered (g .tablets) && Rule.right (positions (rosterScheme b)) g) (passed .1))
+      (and-right (numbered (g .relays)) (numbered (g .tablets) && Rule.right (positions (rosterScheme b)) g)
+      (passed .1))
 
   r : Right (positions (rosterScheme b)) g
   r = right-is (positions (rosterScheme b)) g ruled
@@ -101,7 +116,10 @@ module _ (b rs ts : List ℕ) (done : isDone (refusal b rs ts) ≡ true) where
       rw after-taken
       (record {
         ring = ring-again rs ts g relays-fit tablets-fit (r .relays) (r .tablets) relays-room tablets-room;
-        right = rw (fit-again rs ts g relays-fit tablets-fit (r .relays) (r .tablets) relays-room tablets-room, ring-again rs ts g relays-fit tablets-fit (r .relays) (r .tablets) relays-room tablets-room) ruled;
+        right = rw (
+          fit-again rs ts g relays-fit tablets-fit (r .relays) (r .tablets) relays-room tablets-room,
+          ring-again rs ts g relays-fit tablets-fit (r .relays) (r .tablets) relays-room tablets-room,
+        ) ruled;
         relays = lengths-again rs ts g relays-fit tablets-fit (r .relays) (r .tablets) relays-room tablets-room .0;
         tablets = lengths-again rs ts g relays-fit tablets-fit (r .relays) (r .tablets) relays-room tablets-room .1;
       })

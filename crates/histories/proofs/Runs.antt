@@ -24,16 +24,20 @@ use Rattle.histories.proofs.Kept.{call-reply, call-refusal, call-stands
 
 -- ---- right tables stay right
 
-module _ (s : ℕ) (m : Memory) (c : Step) (small : subject (c .call) < 2 ^ 32) (ok : tablesRight s (m .relays) (m .tablets) ≡ true) where
+module _ (s : ℕ) (m : Memory) (c : Step) (small : subject (c .call) < 2 ^ 32)
+    (ok : tablesRight s (m .relays) (m .tablets) ≡ true) where
   called-right : tablesRight (goesBy s m c) (called m c .relays) (called m c .tablets) ≡ true
   unfolding called goesBy
   called-right =
-      let e : answerTo m c .reply .refusal ≡ _ = call-refusal (c .scheme) (m .relays) (m .tablets) (c .moves) (c .call) in
+      let e : answerTo m c .reply .refusal ≡ _ = call-refusal (c .scheme) (m .relays) (m .tablets) (c .moves)
+      (c .call) in
       split (isDone (answerTo m c .reply .refusal))
-      (λ d. rw (d, goesBy) (call-stands (c .scheme) (m .relays) (m .tablets) (c .moves) (c .call) (ap isDone (sym e) ∙ d) small .right))
+      (λ d. rw (d, goesBy) (call-stands (c .scheme) (m .relays) (m .tablets) (c .moves) (c .call)
+      (ap isDone (sym e) ∙ d) small .right))
       (λ d.
       let same : answerTo m c .lent ≡ lists (m .relays) (m .tablets) (c .moves) =
-      ap (λ (a : After Reply (Lists ℕ)). a .lent) (after-declined (c .scheme) (m .relays) (m .tablets) (c .moves) (c .call) (ap isDone (sym e) ∙ d)) in
+      ap (λ (a : After Reply (Lists ℕ)). a .lent)
+      (after-declined (c .scheme) (m .relays) (m .tablets) (c .moves) (c .call) (ap isDone (sym e) ∙ d)) in
       rw (d, goesBy) (ap (λ (l : Lists ℕ). tablesRight s (l .relays) (l .tablets)) same ∙ ok))
 
 pub run-right : (s : ℕ) (m : Memory) (cs : List Step) → Small cs → tablesRight s (m .relays) (m .tablets) ≡ true
@@ -44,7 +48,8 @@ run-right s m (c ∷ cs) f ok = run-right (goesBy s m c) (called m c) cs (f .1) 
 
 -- ---- what the numbers mean
 
-tally-counted : (l : List ℕ) (c : Call) (r : Reply) → length l ≡ 4 → (tallyOf (tallied l c r) ≡ counted (tallyOf l) c r) × (length (tallied l c r) ≡ 4)
+tally-counted : (l : List ℕ) (c : Call) (r : Reply) → length l ≡ 4 → (tallyOf (tallied l c r) ≡ counted (tallyOf l) c r)
+    × (length (tallied l c r) ≡ 4)
 unfolding tallied tallyOf counts
 tally-counted l c r e = rw (eq-eqb (length l) 4 e, tallied) (refl, refl)
 
@@ -52,11 +57,13 @@ module _ (m : Memory) (c : Step) (small : subject (c .call) < 2 ^ 32) (four : le
   abbrev reply : Reply
   reply = answerTo m c .reply
 
-  called-tally : tallyOf (called m c .tally) ≡ counted (tallyOf (m .tally)) (c .call) (outcomeOf (c .scheme) (m .relays) (m .tablets) (c .moves) (c .call) .reply)
+  called-tally : tallyOf (called m c .tally) ≡ counted (tallyOf (m .tally)) (c .call)
+      (outcomeOf (c .scheme) (m .relays) (m .tablets) (c .moves) (c .call) .reply)
   unfolding called
   called-tally =
       tally-counted (m .tally) (c .call) reply four .0
-      ∙ ap (λ (r : Reply). counted (tallyOf (m .tally)) (c .call) r) (call-reply (c .scheme) (m .relays) (m .tablets) (c .moves) (c .call))
+      ∙ ap (λ (r : Reply). counted (tallyOf (m .tally)) (c .call) r)
+      (call-reply (c .scheme) (m .relays) (m .tablets) (c .moves) (c .call))
 
   called-four : length (called m c .tally) ≡ 4
   unfolding called
@@ -64,9 +71,15 @@ module _ (m : Memory) (c : Step) (small : subject (c .call) < 2 ^ 32) (four : le
 
   called-means : stationOf (called m c) ≡ step (stationOf m) (stepOf m c)
   unfolding stationOf step outcomeOf called
-  called-means = λ i. record { ring = call-means (c .scheme) (m .relays) (m .tablets) (c .moves) (c .call) small i; tally = called-tally i }
+  called-means =
+      λ i. record {
+        ring = call-means (c .scheme) (m .relays) (m .tablets) (c .moves)
+            (c .call) small i;
+        tally = called-tally i;
+      }
 
-pub run-means : (m : Memory) (cs : List Step) → Small cs → length (m .tally) ≡ 4 → stationOf (calledAll m cs) ≡ run (stationOf m) (stepsOf m cs)
+pub run-means : (m : Memory) (cs : List Step) → Small cs → length (m .tally) ≡ 4 → stationOf (calledAll m cs)
+    ≡ run (stationOf m) (stepsOf m cs)
 unfolding calledAll run stepsOf
 run-means m [] f four = refl
 run-means m (c ∷ cs) f four =

@@ -59,9 +59,27 @@ reply relay passed moves = replied Done relay passed moves
 
 -- 3 takes the place of 5, which takes the place of 6; 30 finds room at home
 pub two-enrolments :
-    (after 0 relays tablets list three ≡ record { reply = reply 10 2 2; lent = lists relays (3 ∷ 10 ∷ 5 ∷ 20 ∷ 6 ∷ 30 ∷ []) (5 ∷ 10 ∷ 20 ∷ 6 ∷ 20 ∷ 30 ∷ []) })
-    × (after 0 relays tablets list thirty ≡ record { reply = reply 30 0 0; lent = lists relays (5 ∷ 10 ∷ 6 ∷ 20 ∷ 30 ∷ 30 ∷ []) list })
-unfolding Promise.after Promise.left Promise.written Promised.settled Promise.outcomeOf Meaning.lentOf Meaning.ringOf Meaning.places Meaning.fitTables Meaning.restUnused Shape.relaysUsed Shape.tabletsUsed Shape.used Shape.relayFits Shape.tabletFits Shape.all Shape.unused Table.relayPlaces Table.relayNumber Table.relayLimit Table.relayWhole Table.tabletPlaces Table.tabletNumber Table.tabletRelay Table.tabletWhole Tables.flat Tables.filled Tables.relayTable Tables.tabletTable Tables.flatMoves Tables.listed Scheme.known Scheme.positions Scheme.position Clockwise.clockwise Clockwise.distance Clockwise.sooner Entry.numbers Entry.has Entry.besideOf Entry.insert Entry.delete Entry.put Entry.total Entry.count Entry.load Entry.first Entry.upTo Order.queued Order.order Rule.full Rule.hasRoom Rule.seat Rule.seatAll Rule.placement Rule.rising Rule.limitsFit Rule.same Rule.isJust Rule.right Refusals.isDone Refusals.firstBar Calls.edited Calls.orNobody Calls.after Calls.moved Calls.moves Calls.aheadOf Calls.fullAhead Calls.passed Calls.relayOf Calls.wrongNumbers Calls.refusal Calls.accepted Calls.declined Calls.outcome
+    (after 0 relays tablets list three ≡ record {
+      reply = reply 10 2 2;
+      lent = lists relays
+          (3 ∷ 10 ∷ 5 ∷ 20 ∷ 6 ∷ 30 ∷ []) (5 ∷ 10 ∷ 20 ∷ 6 ∷ 20 ∷ 30 ∷ []);
+    })
+    × (after 0 relays tablets list thirty ≡ record {
+      reply = reply 30 0 0;
+      lent = lists relays
+          (5 ∷ 10 ∷ 6 ∷ 20 ∷ 30 ∷ 30 ∷ []) list;
+    })
+unfolding Promise.after Promise.left Promise.written Promised.settled Promise.outcomeOf Meaning.lentOf Meaning.ringOf
+    Meaning.places Meaning.fitTables Meaning.restUnused Shape.relaysUsed Shape.tabletsUsed Shape.used Shape.relayFits
+    Shape.tabletFits Shape.all Shape.unused Table.relayPlaces Table.relayNumber Table.relayLimit Table.relayWhole
+    Table.tabletPlaces Table.tabletNumber Table.tabletRelay Table.tabletWhole Tables.flat Tables.filled
+    Tables.relayTable Tables.tabletTable Tables.flatMoves Tables.listed Scheme.known Scheme.positions Scheme.position
+    Clockwise.clockwise Clockwise.distance Clockwise.sooner Entry.numbers Entry.has Entry.besideOf Entry.insert
+    Entry.delete Entry.put Entry.total Entry.count Entry.load Entry.first Entry.upTo Order.queued Order.order Rule.full
+    Rule.hasRoom Rule.seat Rule.seatAll Rule.placement Rule.rising Rule.limitsFit Rule.same Rule.isJust Rule.right
+    Refusals.isDone Refusals.firstBar Calls.edited Calls.orNobody Calls.after Calls.moved Calls.moves Calls.aheadOf
+    Calls.fullAhead Calls.passed Calls.relayOf Calls.wrongNumbers Calls.refusal Calls.accepted Calls.declined
+    Calls.outcome
 two-enrolments = (refl, refl)
 
 -- ---- the shells
@@ -78,21 +96,29 @@ module _ (f : Way) (kept : Kept f) where
   to-three = kept 0 relays tablets list three .reply ∙ ap (λ (a : After Reply (Lists ℕ)). a .reply) (two-enrolments .0)
 
   to-thirty : gave thirty .reply ≡ reply 30 0 0
-  to-thirty = kept 0 relays tablets list thirty .reply ∙ ap (λ (a : After Reply (Lists ℕ)). a .reply) (two-enrolments .1)
+  to-thirty =
+      kept 0 relays tablets list thirty .reply ∙ ap (λ (a : After Reply (Lists ℕ)). a .reply) (two-enrolments .1)
 
   tablets-three : gave three .lent .tablets ≡ 3 ∷ 10 ∷ 5 ∷ 20 ∷ 6 ∷ 30 ∷ []
-  tablets-three = ap (λ (l : Lists ℕ). l .tablets) (kept 0 relays tablets list three .lent) ∙ ap (λ (a : After Reply (Lists ℕ)). a .lent .tablets) (two-enrolments .0)
+  tablets-three =
+      ap (λ (l : Lists ℕ). l .tablets) (kept 0 relays tablets list three .lent)
+      ∙ ap (λ (a : After Reply (Lists ℕ)). a .lent .tablets) (two-enrolments .0)
 
   moves-three : gave three .lent .moves ≡ 5 ∷ 10 ∷ 20 ∷ 6 ∷ 20 ∷ 30 ∷ []
-  moves-three = ap (λ (l : Lists ℕ). l .moves) (kept 0 relays tablets list three .lent) ∙ ap (λ (a : After Reply (Lists ℕ)). a .lent .moves) (two-enrolments .0)
+  moves-three =
+      ap (λ (l : Lists ℕ). l .moves) (kept 0 relays tablets list three .lent)
+      ∙ ap (λ (a : After Reply (Lists ℕ)). a .lent .moves) (two-enrolments .0)
 
-  pub refuses-everything : ((s : ℕ) (rs ts ms : List ℕ) (c : Call) → isDone (f s rs ts ms c .reply .refusal) ≡ false) → ⊥
+  pub refuses-everything : ((s : ℕ) (rs ts ms : List ℕ) (c : Call) → isDone (f s rs ts ms c .reply .refusal) ≡ false)
+      → ⊥
   unfolding isDone
-  refuses-everything h = true-false (ap (λ (r : Reply). isDone (r .refusal)) (sym to-three) ∙ h 0 relays tablets list three)
+  refuses-everything h =
+      true-false (ap (λ (r : Reply). isDone (r .refusal)) (sym to-three) ∙ h 0 relays tablets list three)
 
   pub fixed-reply : (r : Reply) → ((s : ℕ) (rs ts ms : List ℕ) (c : Call) → f s rs ts ms c .reply ≡ r) → ⊥
   fixed-reply r h =
-      let e : _≡_ {A = ℕ} 10 30 = ap (λ (x : Reply). x .relay .0) (sym to-three ∙ h 0 relays tablets list three ∙ sym (h 0 relays tablets list thirty) ∙ to-thirty) in
+      let e : _≡_ {A = ℕ} 10 30 = ap (λ (x : Reply). x .relay .0)
+      (sym to-three ∙ h 0 relays tablets list three ∙ sym (h 0 relays tablets list thirty) ∙ to-thirty) in
       omega arith
 
   pub tables-untouched : ((s : ℕ) (rs ts ms : List ℕ) (c : Call) → f s rs ts ms c .lent .tablets ≡ ts) → ⊥
@@ -108,7 +134,8 @@ module _ (f : Way) (kept : Kept f) where
 
   -- a number that does not come of what is lent, whichever part of the reply it is
   invented : (part : Reply → ℕ) → (part (reply 10 2 2) ≡ part (reply 30 0 0) → ⊥)
-      → (n : ℕ) → ((s : ℕ) (rs ts ms : List ℕ) (c : Call) → isDone (f s rs ts ms c .reply .refusal) ≡ true → part (f s rs ts ms c .reply) ≡ n) → ⊥
+      → (n : ℕ) → ((s : ℕ) (rs ts ms : List ℕ) (c : Call) → isDone (f s rs ts ms c .reply .refusal) ≡ true
+      → part (f s rs ts ms c .reply) ≡ n) → ⊥
   unfolding isDone
   invented part apart n h =
       apart
@@ -117,10 +144,12 @@ module _ (f : Way) (kept : Kept f) where
       ∙ sym (h 0 relays tablets list thirty (ap (λ (r : Reply). isDone (r .refusal)) to-thirty))
       ∙ ap part to-thirty)
 
-  pub passed-invented : (n : ℕ) → ((s : ℕ) (rs ts ms : List ℕ) (c : Call) → isDone (f s rs ts ms c .reply .refusal) ≡ true → f s rs ts ms c .reply .passed ≡ n) → ⊥
+  pub passed-invented : (n : ℕ) → ((s : ℕ) (rs ts ms : List ℕ) (c : Call) → isDone (f s rs ts ms c .reply .refusal)
+      ≡ true → f s rs ts ms c .reply .passed ≡ n) → ⊥
   passed-invented = invented (λ r. r .passed) (λ e. omega (arith, e))
 
-  pub moves-invented : (n : ℕ) → ((s : ℕ) (rs ts ms : List ℕ) (c : Call) → isDone (f s rs ts ms c .reply .refusal) ≡ true → f s rs ts ms c .reply .moves ≡ n) → ⊥
+  pub moves-invented : (n : ℕ) → ((s : ℕ) (rs ts ms : List ℕ) (c : Call) → isDone (f s rs ts ms c .reply .refusal)
+      ≡ true → f s rs ts ms c .reply .moves ≡ n) → ⊥
   moves-invented = invented (λ r. r .moves) (λ e. omega (arith, e))
 
   -- the count alone is told
@@ -132,8 +161,10 @@ module _ (f : Way) (kept : Kept f) where
 -- ---- a constant table
 
 -- tablets 5 and 6 at one relay, whichever: not the rule's where each relay has room for one
-pub constant-table : (r : ℕ) → Rule.right (Scheme.positions 0) (record { relays = entry 10 1 ∷ entry 20 1 ∷ []; tablets = entry 5 r ∷ entry 6 r ∷ [] }) ≡ true → ⊥
-unfolding Rooms.fill Rooms.choose Rooms.chooseFrom Rooms.better Rooms.orZero Rooms.less Entry.numbers Entry.besideOf Scheme.positions Scheme.position Clockwise.clockwise Clockwise.distance Clockwise.key
+pub constant-table : (r : ℕ) → Rule.right (Scheme.positions 0)
+    (record { relays = entry 10 1 ∷ entry 20 1 ∷ []; tablets = entry 5 r ∷ entry 6 r ∷ [] }) ≡ true → ⊥
+unfolding Rooms.fill Rooms.choose Rooms.chooseFrom Rooms.better Rooms.orZero Rooms.less Entry.numbers Entry.besideOf
+    Scheme.positions Scheme.position Clockwise.clockwise Clockwise.distance Clockwise.key
 constant-table r h =
     let e : entry 5 r ∷ entry 6 r ∷ [] ≡ entry 5 10 ∷ entry 6 20 ∷ [] = right-is (Scheme.positions 0) _ h .ruled in
     let a : r ≡ 10 = ap (λ (l : List Entry). Entry.besideOf l 5) e in

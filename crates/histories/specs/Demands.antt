@@ -28,12 +28,14 @@ pub record Untouched (rs ts ms tally : List ℕ) (a : After Reply (Lists ℕ)) (
   pub relays : a .lent .relays ≡ rs
   pub tablets : a .lent .tablets ≡ ts
   pub moves : a .lent .moves ≡ ms
-  pub counts : length tally ≡ 4 → tally′ ≡ getD tally 0 0 ∷ getD tally 1 0 ∷ getD tally 2 0 ∷ more (getD tally 3 0) 1 ∷ []
+  pub counts : length tally ≡ 4 → tally′ ≡ getD tally 0 0 ∷ getD tally 1 0 ∷ getD tally 2 0 ∷ more (getD tally 3 0) 1
+      ∷ []
   pub other : (length tally ≡ 4 → ⊥) → tally′ ≡ tally
 
 -- the number is the lowest of the refusals that apply, 0 where none does, and whoever is refused finds everything as it was
 pub record Demand1 (s : ℕ) (rs ts ms tally : List ℕ) (c : Call) : Type 0 where
-  pub number : Lowest numberOf (bars (positions s) (lentOf s rs ts ms) (ringOf rs ts) c) (after s rs ts ms c .reply .refusal)
+  pub number : Lowest numberOf (bars (positions s) (lentOf s rs ts ms) (ringOf rs ts) c)
+      (after s rs ts ms c .reply .refusal)
   pub refused : isDone (after s rs ts ms c .reply .refusal) ≡ false
       → Untouched rs ts ms tally (after s rs ts ms c) (tallied tally c (after s rs ts ms c .reply))
 
@@ -54,5 +56,6 @@ pub record Demand2 (s : ℕ) (rs ts ms : List ℕ) (c : Call) (a : After Reply (
   pub places : (length (a .lent .relays) ≡ length rs) × (length (a .lent .tablets) ≡ length ts)
   pub changed : Changed (ringOf rs ts) c (ringOf (a .lent .relays) (a .lent .tablets))
   pub room : 3 * a .reply .moves ≤ length ms
-  pub moves : Names (ringOf rs ts) (ringOf (a .lent .relays) (a .lent .tablets)) (standing (a .reply .moves) (a .lent .moves))
+  pub moves : Names (ringOf rs ts) (ringOf (a .lent .relays) (a .lent .tablets))
+      (standing (a .reply .moves) (a .lent .moves))
   pub rest : drop (3 * a .reply .moves) (a .lent .moves) ≡ drop (3 * a .reply .moves) ms

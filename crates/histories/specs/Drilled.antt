@@ -13,7 +13,9 @@ unfoldable pub blank : Memory
 blank = record { relays = replicate 16 0; tablets = replicate 16 0; tally = replicate 4 0 }
 
 unfoldable pub drillCalls : List Call
-drillCalls = (Add (record { 0 = 10 }) 1 ∷ Add (record { 0 = 20 }) 2 ∷ Add (record { 0 = 30 }) 1 ∷ []) ++ map (λ (c : Case). c .call) drill
+drillCalls =
+    (Add (record { 0 = 10 }) 1 ∷ Add (record { 0 = 20 }) 2 ∷ Add (record { 0 = 30 }) 1 ∷ []) ++ map
+    (λ (c : Case). c .call) drill
 
 -- under scheme 0, each lent a list of eight moves
 unfoldable pub drillSteps : List Step

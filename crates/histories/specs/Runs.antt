@@ -79,7 +79,13 @@ stationOf m = record { ring = ringOf (m .relays) (m .tablets); tally = tallyOf (
 
 -- a call with what is lent to it when its turn comes
 abbrev pub stepOf : Memory → Step → Tally.Step
-stepOf m c = record { positions = positions (c .scheme); lent = lentOf (c .scheme) (m .relays) (m .tablets) (c .moves); call = c .call }
+stepOf m c =
+    record {
+      positions = positions (c .scheme);
+      lent = lentOf (c .scheme) (m .relays) (m .tablets)
+          (c .moves);
+      call = c .call;
+    }
 
 unfoldable pub stepsOf : Memory → List Step → List Tally.Step
 stepsOf m [] = []

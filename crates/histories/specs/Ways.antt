@@ -12,4 +12,5 @@ Way = ℕ → List ℕ → List ℕ → List ℕ → Call → After Reply (Lists
 
 -- it keeps the promise of the six calls
 abbrev pub Kept : Way → Type 0
-Kept f = (s : ℕ) (rs ts ms : List ℕ) (c : Call) → Answers (after s rs ts ms c) (f s rs ts ms c .reply) (f s rs ts ms c .lent)
+Kept f =
+    (s : ℕ) (rs ts ms : List ℕ) (c : Call) → Answers (after s rs ts ms c) (f s rs ts ms c .reply) (f s rs ts ms c .lent)

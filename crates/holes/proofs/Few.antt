@@ -69,5 +69,7 @@ fewer-more f zero x k h l = absurd (omega arith)
 fewer-more f (suc n) x k h l =
     split (eqb k n)
     (λ u. let z : k ≡ n = eqb-true k n u in
-    rw z (rw (lt-leb (f n) x (rw z at l), le-leb (f n) (f n) (omega arith)) (omega (arith, fewer-up f n x (f n) (let g : x < f n = rw z at l in omega arith)))))
-    (λ u. let d : k ≡ n → ⊥ = eqb-false k n u in omega (arith, fewer-more f n x k (omega arith) l, one-up (f n) x (f k) (omega arith)))
+    rw z (rw (lt-leb (f n) x (rw z at l), le-leb (f n) (f n) (omega arith))
+    (omega (arith, fewer-up f n x (f n) (let g : x < f n = rw z at l in omega arith)))))
+    (λ u. let d : k ≡ n → ⊥ = eqb-false k n u in omega
+    (arith, fewer-more f n x k (omega arith) l, one-up (f n) x (f k) (omega arith)))

@@ -42,17 +42,20 @@ module _ (ts : List ℕ) where
   left-more r (k ∷ js) j = left-more (tabletRelay ts k) js j
 
   moves-more : (r : ℕ) (js : List ℕ) (j : ℕ)
-      → movesOf ts r (js ++ (j ∷ [])) ≡ movesOf ts r js ++ (move (tabletNumber ts j) (tabletRelay ts j) (leftBy ts r js) ∷ [])
+      → movesOf ts r (js ++ (j ∷ [])) ≡ movesOf ts r js
+      ++ (move (tabletNumber ts j) (tabletRelay ts j) (leftBy ts r js) ∷ [])
   unfolding movesOf leftBy
   moves-more r [] j = refl
-  moves-more r (k ∷ js) j = ap (λ (l : List Move). move (tabletNumber ts k) (tabletRelay ts k) r ∷ l) (moves-more (tabletRelay ts k) js j)
+  moves-more r (k ∷ js) j =
+      ap (λ (l : List Move). move (tabletNumber ts k) (tabletRelay ts k) r ∷ l) (moves-more (tabletRelay ts k) js j)
 
   pub length-moves : (r : ℕ) (js : List ℕ) → length (movesOf ts r js) ≡ length js
   unfolding movesOf
   length-moves r [] = refl
   length-moves r (j ∷ js) = ap suc (length-moves (tabletRelay ts j) js)
 
-seated-more : (ms : List Move) (m : Move) (es : List Entry) → seated (ms ++ (m ∷ [])) es ≡ put (m .tablet .0) (m .new .0) (seated ms es)
+seated-more : (ms : List Move) (m : Move) (es : List Entry) → seated (ms ++ (m ∷ [])) es
+    ≡ put (m .tablet .0) (m .new .0) (seated ms es)
 unfolding seated
 seated-more [] m es = refl
 seated-more (x ∷ ms) m es = seated-more ms m (put (x .tablet .0) (x .new .0) es)
@@ -88,7 +91,8 @@ module _ (ts ms : List ℕ) (m : ℕ) (places : List ℕ) (count r : ℕ) where
         left = refl;
       }
 
-  module _ (f : Fillers ts ms m places count) {tablets moves : List ℕ} {new c : ℕ} (s : Sitting tablets moves new c) where
+  module _ (f : Fillers ts ms m places count) {tablets moves : List ℕ} {new c : ℕ}
+      (s : Sitting tablets moves new c) where
     pub sit-climbs : Climbs (tabletNumber tablets) m
     sit-climbs = record { up = λ i l h k. rw (s .numbers i, s .numbers l) (f .numbers .up i l h k) }
 
@@ -97,11 +101,22 @@ module _ (ts ms : List ℕ) (m : ℕ) (places : List ℕ) (count r : ℕ) where
     sit-there = omega (arith, s .size, f .there)
 
     pub sit-long : length moves ≡ length ms
-    sit-long = ap length (s .list) ∙ length-listed (firsts c) ms (omega (arith, length-moves ts r (take c places), length-take-le c places (omega (arith, s .within, f .few, f .size)), s .within, f .long))
+    sit-long =
+        ap length (s .list) ∙ length-listed (firsts c) ms
+        (omega (
+          arith,
+          length-moves ts r (take c places),
+          length-take-le c places
+              (omega (arith, s .within, f .few, f .size)),
+          s .within,
+          f .long,
+        ))
 
-    module _ (h : c < count) {j : ℕ} (ej : j ≡ getD places c 0) {t old : ℕ} (et : t ≡ tabletNumber tablets j) (eo : old ≡ tabletRelay tablets j)
+    module _ (h : c < count) {j : ℕ} (ej : j ≡ getD places c 0) {t old : ℕ} (et : t ≡ tabletNumber tablets j)
+        (eo : old ≡ tabletRelay tablets j)
         {moves′ : List ℕ} (em : moves′ ≡ setMove moves c t old new) {tablets′ : List ℕ}
-        (es : WroteTablets tablets tablets′ m (put (tabletNumber tablets j) new (tabletsIn tablets m)) × SetBeside tabletNumber tabletRelay tablets tablets′ j new) where
+        (es : WroteTablets tablets tablets′ m (put (tabletNumber tablets j) new (tabletsIn tablets m))
+        × SetBeside tabletNumber tabletRelay tablets tablets′ j new) where
       abbrev J : ℕ
       J = getD places c 0
 
@@ -150,11 +165,22 @@ module _ (ts ms : List ℕ) (m : ℕ) (places : List ℕ) (count r : ℕ) where
           }
 
     pub sit-end : count ≤ c
-        → MovedUp ts tablets m (movesOf ts r (take count places)) × (moves ≡ listed (movesOf ts r (take count places)) ms)
+        → MovedUp ts tablets m (movesOf ts r (take count places))
+        × (moves ≡ listed (movesOf ts r (take count places)) ms)
     sit-end h =
         let z : c ≡ count = omega (arith, s .within) in
-        rw (← z)
-        (record { wrote = record { size = s .size; entries = s .entries; number = λ i k. s .numbers i; relay = s .behind }; numbers = s .numbers }, s .list)
+        rw (← z) (
+          record {
+            wrote = record {
+              size = s .size;
+              entries = s .entries;
+              number = λ i k. s .numbers i;
+              relay = s .behind;
+            };
+            numbers = s .numbers;
+          },
+          s .list,
+        )
 
 -- ---- the tablet that left
 
@@ -182,20 +208,24 @@ module _ (ts : List ℕ) (x : ℕ) where
   Others [] = Unit {0}
   Others (j ∷ js) = (tabletNumber ts j ≡ x → ⊥) × Others js
 
-  others-take : (places : List ℕ) (count : ℕ) → count ≤ length places → ((c : ℕ) → c < count → tabletNumber ts (getD places c 0) ≡ x → ⊥) → Others (take count places)
+  others-take : (places : List ℕ) (count : ℕ) → count ≤ length places
+      → ((c : ℕ) → c < count → tabletNumber ts (getD places c 0) ≡ x → ⊥) → Others (take count places)
   unfolding Others
   others-take places zero l h = tt
   others-take [] (suc count) l h = tt
-  others-take (j ∷ places) (suc count) l h = (h 0 (omega arith), others-take places count (omega arith) (λ c k. h (suc c) (omega arith)))
+  others-take (j ∷ places) (suc count) l h =
+      (h 0 (omega arith), others-take places count (omega arith) (λ c k. h (suc c) (omega arith)))
 
-  delete-seated : (js : List ℕ) (r : ℕ) (es : List Entry) → Others js → delete x (seated (movesOf ts r js) es) ≡ seated (movesOf ts r js) (delete x es)
+  delete-seated : (js : List ℕ) (r : ℕ) (es : List Entry) → Others js → delete x (seated (movesOf ts r js) es)
+      ≡ seated (movesOf ts r js) (delete x es)
   unfolding seated movesOf Others
   delete-seated [] r es o = refl
   delete-seated (j ∷ js) r es o =
       delete-seated js (tabletRelay ts j) (put (tabletNumber ts j) r es) (o .1)
       ∙ ap (seated (movesOf ts (tabletRelay ts j) js)) (delete-put x (tabletNumber ts j) r es (o .0))
 
-module _ {ts ms : List ℕ} {m : ℕ} {places : List ℕ} {count at : ℕ} (f : Fillers ts ms m places count) (h : at < m) (k : Climbing places count at m) (r : ℕ)
+module _ {ts ms : List ℕ} {m : ℕ} {places : List ℕ} {count at : ℕ} (f : Fillers ts ms m places count) (h : at < m)
+    (k : Climbing places count at m) (r : ℕ)
     {mid : List ℕ} (s : MovedUp ts mid m (movesOf ts r (take count places))) where
   pub filled-climbs : Climbs (tabletNumber mid) m
   filled-climbs = record { up = λ i l u v. rw (s .numbers i, s .numbers l) (f .numbers .up i l u v) }
@@ -204,7 +234,8 @@ module _ {ts ms : List ℕ} {m : ℕ} {places : List ℕ} {count at : ℕ} (f : 
   unfolding tabletPlaces
   filled-there = omega (arith, s .wrote .size, f .there)
 
-  taken : {after : List ℕ} → TookOut tabletNumber tabletRelay mid after (m - 1) (delete (tabletNumber mid at) (tabletsIn mid m))
+  taken : {after : List ℕ} → TookOut tabletNumber tabletRelay mid after (m - 1)
+      (delete (tabletNumber mid at) (tabletsIn mid m))
       → Filled ts after m at (movesOf ts r (take count places))
   taken t =
       record {
@@ -224,9 +255,13 @@ module _ {ts ms : List ℕ} {m : ℕ} {places : List ℕ} {count at : ℕ} (f : 
       }
     where
       others : Others ts (tabletNumber ts at) (take count places)
-      others = others-take ts (tabletNumber ts at) places count (omega (arith, f .few, f .size)) (λ c l e. omega (arith, f .numbers .up at (getD places c 0) (k .above c l) (k .below c l)))
+      others =
+          others-take ts (tabletNumber ts at) places count (omega (arith, f .few, f .size))
+          (λ c l e. omega (arith, f .numbers .up at (getD places c 0) (k .above c l) (k .below c l)))
 
-  pub filled-from : {after moves : List ℕ} → TookOut tabletNumber tabletRelay mid after (m - 1) (delete (tabletNumber mid at) (tabletsIn mid m))
+  pub filled-from : {after moves : List ℕ} → TookOut tabletNumber tabletRelay mid after (m - 1)
+      (delete (tabletNumber mid at) (tabletsIn mid m))
       → moves ≡ listed (movesOf ts r (take count places)) ms → r ≡ tabletRelay ts at
-      → Filled ts after m at (movesOf ts (tabletRelay ts at) (take count places)) × (moves ≡ listed (movesOf ts (tabletRelay ts at) (take count places)) ms)
+      → Filled ts after m at (movesOf ts (tabletRelay ts at) (take count places))
+      × (moves ≡ listed (movesOf ts (tabletRelay ts at) (take count places)) ms)
   filled-from t l e = rw (← e) (taken t, l)

@@ -49,21 +49,26 @@ module _ (home slot : List ℕ) (m i : ℕ) where
     pub seek-end : m ≤ j → Next home slot m i j
     seek-end h = record { low = s .low; high = s .high; skipped = s .skipped; passed = λ l. absurd (omega arith) }
 
-pub next-at-once : {keys room home slot : List ℕ} {m : ℕ} → Sweeps keys room home slot m → (i : ℕ) → i < m → 0 < slotRoom keys room (getD slot i 0) → Next home slot m i m
-next-at-once s i h o = record { low = h; high = omega arith; skipped = λ j a b. s .roomy i j h b o; passed = λ c. absurd (omega arith) }
+pub next-at-once : {keys room home slot : List ℕ} {m : ℕ} → Sweeps keys room home slot m → (i : ℕ) → i < m
+    → 0 < slotRoom keys room (getD slot i 0) → Next home slot m i m
+next-at-once s i h o =
+    record { low = h; high = omega arith; skipped = λ j a b. s .roomy i j h b o; passed = λ c. absurd (omega arith) }
 
 -- ---- who moves
 
 module _ (home slot : List ℕ) where
-  pub movers-pass : (i j left : ℕ) → passedAt home slot i j ≡ false → movers home slot i j (suc left) ≡ movers home slot i (suc j) left
+  pub movers-pass : (i j left : ℕ) → passedAt home slot i j ≡ false → movers home slot i j (suc left)
+      ≡ movers home slot i (suc j) left
   unfolding movers
   movers-pass i j left e = rw (e, movers)
 
-  pub movers-take : (i j left : ℕ) → passedAt home slot i j ≡ true → movers home slot i j (suc left) ≡ j ∷ movers home slot j (suc j) left
+  pub movers-take : (i j left : ℕ) → passedAt home slot i j ≡ true → movers home slot i j (suc left)
+      ≡ j ∷ movers home slot j (suc j) left
   unfolding movers
   movers-take i j left e = rw (e, movers)
 
-  movers-skip : (i d j left : ℕ) → ((l : ℕ) → j ≤ l → l < j + d → passedAt home slot i l ≡ false) → movers home slot i j (d + left) ≡ movers home slot i (j + d) left
+  movers-skip : (i d j left : ℕ) → ((l : ℕ) → j ≤ l → l < j + d → passedAt home slot i l ≡ false)
+      → movers home slot i j (d + left) ≡ movers home slot i (j + d) left
   movers-skip i zero j left h =
       let a : zero + left ≡ left = omega arith in
       let b : j + zero ≡ j = omega arith in
@@ -72,10 +77,12 @@ module _ (home slot : List ℕ) where
       let a : suc d + left ≡ suc (d + left) = omega arith in
       let b : j + suc d ≡ suc j + d = omega arith in
       rw (a, b)
-      (movers-pass i j (d + left) (h j (omega arith) (omega arith)) ∙ movers-skip i d (suc j) left (λ l x y. h l (omega arith) (omega arith)))
+      (movers-pass i j (d + left) (h j (omega arith) (omega arith))
+      ∙ movers-skip i d (suc j) left (λ l x y. h l (omega arith) (omega arith)))
 
   -- nobody up to the next moves
-  movers-next : (m i r : ℕ) → Next home slot m i r → movers home slot i (suc i) (m - suc i) ≡ movers home slot i r (m - r)
+  movers-next : (m i r : ℕ) → Next home slot m i r → movers home slot i (suc i) (m - suc i)
+      ≡ movers home slot i r (m - r)
   movers-next m i r x =
       let a : m - suc i ≡ (r - suc i) + (m - r) = omega (arith, x .low, x .high) in
       let b : suc i + (r - suc i) ≡ r = omega (arith, x .low) in
@@ -85,7 +92,8 @@ module _ (home slot : List ℕ) where
 
 -- ---- the chain so far
 
-climbing-more : (places : List ℕ) (count low j high : ℕ) → count < length places → low < j → j < high → Climbing places count low j → Climbing (set places count j) (count + 1) low high
+climbing-more : (places : List ℕ) (count low j high : ℕ) → count < length places → low < j → j < high
+    → Climbing places count low j → Climbing (set places count j) (count + 1) low high
 climbing-more places count low j high h l t s =
     record {
       above = λ c k. split (eqb c count)
@@ -117,7 +125,8 @@ module _ (home slot : List ℕ) (m at : ℕ) where
     pub next : Next home slot m leaver j
     pub size : length places ≡ mostRelays
     pub climbs : Climbing places count at j
-    pub are : take count places ++ movers home slot leaver (suc leaver) (m - suc leaver) ≡ movers home slot at (suc at) (m - suc at)
+    pub are : take count places ++ movers home slot leaver (suc leaver) (m - suc leaver) ≡ movers home slot at (suc at)
+        (m - suc at)
     pub few : count < fewer (lastOf slot m) mostRelays (lastOf slot m (getD slot leaver 0))
 
   -- fewer moved than there are relays
@@ -125,7 +134,8 @@ module _ (home slot : List ℕ) (m at : ℕ) where
   swept-few w = omega (arith, w .few, fewer-most (lastOf slot m) mostRelays (lastOf slot m (getD slot (w .leaver) 0)))
 
   module _ {keys room : List ℕ} (s : Sweeps keys room home slot m) where
-    pub sweep-start : {places : List ℕ} {j : ℕ} → at < m → length places ≡ mostRelays → Next home slot m at j → Swept places 0 j
+    pub sweep-start : {places : List ℕ} {j : ℕ} → at < m → length places ≡ mostRelays → Next home slot m at j
+        → Swept places 0 j
     sweep-start {places} {j} h e x =
         record {
           leaver = at;
@@ -133,13 +143,23 @@ module _ (home slot : List ℕ) (m at : ℕ) where
           from = omega arith;
           next = x;
           size = e;
-          climbs = record { above = λ c l. absurd (omega arith); below = λ c l. absurd (omega arith); up = λ c d l f. absurd (omega arith) };
+          climbs = record {
+            above = λ c l. absurd (omega arith);
+            below = λ c l. absurd
+                (omega arith);
+            up = λ c d l f. absurd (omega arith);
+          };
           are = refl;
-          few = omega (arith, fewer-more (lastOf slot m) mostRelays 0 (getD slot at 0) (s .slots at h) (omega (arith, last-above slot m (getD slot at 0) at h refl)));
+          few = omega (
+            arith,
+            fewer-more (lastOf slot m) mostRelays 0 (getD slot at 0) (s .slots at h)
+                (omega (arith, last-above slot m (getD slot at 0) at h refl)),
+          );
         }
 
     module _ {places : List ℕ} {count j : ℕ} (w : Swept places count j) where
-      taken : j < m → movers home slot (w .leaver) (suc (w .leaver)) (m - suc (w .leaver)) ≡ j ∷ movers home slot j (suc j) (m - suc j)
+      taken : j < m → movers home slot (w .leaver) (suc (w .leaver)) (m - suc (w .leaver)) ≡ j ∷ movers home slot j
+          (suc j) (m - suc j)
       taken h =
           let a : m - j ≡ suc (m - suc j) = omega arith in
           movers-next home slot m (w .leaver) j (w .next)
@@ -168,7 +188,13 @@ module _ (home slot : List ℕ) (m at : ℕ) where
               arith,
               w .few,
               fewer-more (lastOf slot m) mostRelays (lastOf slot m k) (getD slot j 0) (s .slots j h)
-                  (omega (arith, last-below slot m k j (λ l a b e. s .shut (w .leaver) j l (w .inside) (w .next .passed h) a b e), last-above slot m (getD slot j 0) j h refl)),
+                  (omega (
+                    arith,
+                    last-below slot m k j
+                        (λ l a b e. s .shut (w .leaver) j l (w .inside) (w .next .passed h) a b e),
+                    last-above slot m
+                        (getD slot j 0) j h refl,
+                  )),
             );
           }
 
@@ -177,10 +203,12 @@ module _ (home slot : List ℕ) (m at : ℕ) where
           let z : j ≡ m = omega (arith, w .next .high) in
           let a : m - j ≡ 0 = omega arith in
           let none : movers home slot (w .leaver) (suc (w .leaver)) (m - suc (w .leaver)) ≡ [] =
-          movers-next home slot m (w .leaver) j (w .next) ∙ ap (movers home slot (w .leaver) j) a ∙ unfold movers in refl in
+          movers-next home slot m (w .leaver) j (w .next) ∙ ap (movers home slot (w .leaver) j) a
+          ∙ unfold movers in refl in
           record {
             size = w .size;
             few = omega (arith, swept-few w);
             climbs = rw z at (w .climbs);
-            are = sym (append-nil (take count places)) ∙ ap (λ (l : List ℕ). take count places ++ l) (sym none) ∙ w .are;
+            are = sym (append-nil (take count places)) ∙ ap (λ (l : List ℕ). take count places ++ l) (sym none)
+                ∙ w .are;
           }

@@ -36,4 +36,5 @@ pub record MovedUp (before after : List ℕ) (m : ℕ) (moves : List Move) : Typ
 
 -- so they sit without the tablet at place `at`
 pub record Filled (before after : List ℕ) (m at : ℕ) (moves : List Move) : Type 0 where
-  pub took : TookOut tabletNumber tabletRelay before after (m - 1) (seated moves (delete (tabletNumber before at) (tabletsIn before m)))
+  pub took : TookOut tabletNumber tabletRelay before after (m - 1)
+      (seated moves (delete (tabletNumber before at) (tabletsIn before m)))

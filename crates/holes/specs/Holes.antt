@@ -22,7 +22,11 @@ passedAt home slot i j = ltb (around (getD home j 0) (getD slot i 0)) (around (g
 -- hole, and leaves its own
 unfoldable pub movers : List ℕ → List ℕ → ℕ → ℕ → ℕ → List ℕ
 movers home slot i j zero = []
-movers home slot i j (suc left) = elim (passedAt home slot i j) [ true ↦ j ∷ movers home slot j (suc j) left | false ↦ movers home slot i (suc j) left ]
+movers home slot i j (suc left) =
+    elim (passedAt home slot i j) [
+      | true ↦ j ∷ movers home slot j (suc j) left
+      | false ↦ movers home slot i (suc j) left
+    ]
 
 -- what the sweep knows of right tables with m tablets
 pub record Sweeps (keys room home slot : List ℕ) (m : ℕ) : Type 0 where

@@ -105,7 +105,10 @@ fn sit_down(
     r: ring::RelayNumber,
 )
     requires { ⌜ Fillers (now tablets) (now moves) m (now places) count ⌝ }
-    ensures { λ _. ⌜ MovedUp (now (tablets .entry)) (now (tablets .exit)) m (movesOf (now (tablets .entry)) (r .0) (take count (now (places .entry)))) × (now (moves .exit) ≡ listed (movesOf (now (tablets .entry)) (r .0) (take count (now (places .entry)))) (now (moves .entry))) ⌝ }
+    ensures { λ _. ⌜ MovedUp (now (tablets .entry)) (now (tablets .exit)) m
+        (movesOf (now (tablets .entry)) (r .0) (take count (now (places .entry))))
+        × (now (moves .exit) ≡ listed (movesOf (now (tablets .entry)) (r .0) (take count (now (places .entry))))
+        (now (moves .entry))) ⌝ }
 {
     let mut new = r;
     let mut c: usize = 0;
@@ -130,7 +133,10 @@ pub fn fill(
     count: usize,
 )
     requires { ⌜ Fillers (now tablets) (now moves) m (now places) count × (at < m) × Climbing (now places) count at m ⌝ }
-    ensures { λ _. ⌜ Filled (now (tablets .entry)) (now (tablets .exit)) m at (movesOf (now (tablets .entry)) (tabletRelay (now (tablets .entry)) at) (take count (now (places .entry)))) × (now (moves .exit) ≡ listed (movesOf (now (tablets .entry)) (tabletRelay (now (tablets .entry)) at) (take count (now (places .entry)))) (now (moves .entry))) ⌝ }
+    ensures { λ _. ⌜ Filled (now (tablets .entry)) (now (tablets .exit)) m at
+        (movesOf (now (tablets .entry)) (tabletRelay (now (tablets .entry)) at) (take count (now (places .entry))))
+        × (now (moves .exit) ≡ listed (movesOf (now (tablets .entry)) (tabletRelay (now (tablets .entry)) at)
+        (take count (now (places .entry)))) (now (moves .entry))) ⌝ }
 {
     let r = tables::tablet_relay(tablets, at);
     sit_down(tablets, moves, m, places, count, r);

@@ -27,23 +27,27 @@ pub record Marks (from b k : ℕ) (a s : List ℕ) : Type 0 where
 pub marks-none : (from k : ℕ) (a : List ℕ) → Marks from from k a a
 marks-none from k a = record { size = refl; rest = λ c h. refl; done = λ c h l. absurd (omega arith) }
 
-pub marks-more : {from b k : ℕ} {a s : List ℕ} → Marks from b k a s → from ≤ b → b < length s → Marks from (b + 1) k a (set s b k)
+pub marks-more : {from b k : ℕ} {a s : List ℕ} → Marks from b k a s → from ≤ b → b < length s
+    → Marks from (b + 1) k a (set s b k)
 marks-more {from} {b} {k} {a} {s} m h l = record {
   size = simp length-set (m .size);
   rest = λ c p. getD-set-other s b c k 0 (λ e. omega arith) ∙ m .rest c p;
   done = λ c p q. stored (λ _ x. x ≡ k) s b l refl c (λ d. m .done c p (omega arith));
 }
 
-pub marks-end : {from top b k : ℕ} {a s : List ℕ} → from ≤ b → top < b → b ≤ arcs → Marks from b k a s → Marked from top k a s b
+pub marks-end : {from top b k : ℕ} {a s : List ℕ} → from ≤ b → top < b → b ≤ arcs → Marks from b k a s
+    → Marked from top k a s b
 marks-end h p w m = record { size = m .size; onward = h; past = p; within = w; rest = m .rest; done = m .done }
 
 -- ---- where walks may begin
 
 -- at the first slot, to any arc
 pub starts-zeros : (keys : List ℕ) (n : ℕ) → Starts keys n arcs (replicate arcs 0)
-starts-zeros keys n = record { begins = λ b p. rw (getD-replicate {A = ℕ} arcs b 0 0 p) (begins-none keys n (keyAt (b * arc))) }
+starts-zeros keys n =
+    record { begins = λ b p. rw (getD-replicate {A = ℕ} arcs b 0 0 p) (begins-none keys n (keyAt (b * arc))) }
 
-module _ {keys a s : List ℕ} {n from top k r : ℕ} (m : Marked from top k a s r) (b : Begins keys n (keyAt (from * arc)) k) where
+module _ {keys a s : List ℕ} {n from top k r : ℕ} (m : Marked from top k a s r)
+    (b : Begins keys n (keyAt (from * arc)) k) where
   pub starts-marked : Starts keys n from a → Starts keys n r s
   starts-marked o = record {
     begins = λ c p. split (ltb c from)

@@ -91,7 +91,8 @@ pub fn home_of(
     last: ring::Position,
     p: ring::Position,
 ) -> usize
-    requires { ⌜ (n ≤ mostRelays) × KeysRise n (now keys) × Starts (now keys) n arcs (now start) × Begins (now keys) n (keyAt (last .0)) h ⌝ }
+    requires { ⌜ (n ≤ mostRelays) × KeysRise n (now keys) × Starts (now keys) n arcs (now start)
+        × Begins (now keys) n (keyAt (last .0)) h ⌝ }
     ensures { λ r. ⌜ Home (now (keys .entry)) n (keyAt (p .0)) r ⌝ }
 {
     let at = p.0 as u64;

@@ -68,23 +68,28 @@ onward : Left → List ℕ → List ℕ → List ℕ
 onward a line bs = a .reply .text ++ sent (standing a) (a .lent .relays) (a .lent .tablets) (a .lent .moves) line bs
 
 module _ (at : Standing) (rs ts ms line : List ℕ) (b : ℕ) (bs : List ℕ) where
-  sent-end : eqb b 10 ≡ true → sent at rs ts ms line (b ∷ bs) ≡ onward (answered (at .stage) rs ts ms (take (at .kept) line)) line bs
+  sent-end : eqb b 10 ≡ true → sent at rs ts ms line (b ∷ bs)
+      ≡ onward (answered (at .stage) rs ts ms (take (at .kept) line)) line bs
   unfolding taken lineThen sent onward
   sent-end e = rw (e, taken)
 
   sent-kept : eqb b 10 ≡ false → sent at rs ts ms line (b ∷ bs)
-      ≡ sent (record { stage = at .stage; kept = min (at .kept + 1) (length line); due = 0 }) rs ts ms (set line (at .kept) b) bs
+      ≡ sent (record { stage = at .stage; kept = min (at .kept + 1) (length line); due = 0 }) rs ts ms
+      (set line (at .kept) b) bs
   unfolding taken lineThen keeping unchanged standing sent
   sent-kept e = rw (e, taken)
 
 -- ---- all bytes
 
 module _ {line : List ℕ} {kept : ℕ} {l : List ℕ} (h : length line ≡ 24) (k : Kept line kept l) where
-  line-answered : (next : Stage) (rs ts ms : List ℕ) → answered next rs ts ms (take kept line) ≡ answered next rs ts ms l
-  line-answered next rs ts ms = ap (answered next rs ts ms) (k .bytes ∙ ap (λ n. take n l) h) ∙ answered-first next rs ts ms l
+  line-answered : (next : Stage) (rs ts ms : List ℕ) → answered next rs ts ms (take kept line)
+      ≡ answered next rs ts ms l
+  line-answered next rs ts ms =
+      ap (answered next rs ts ms) (k .bytes ∙ ap (λ n. take n l) h) ∙ answered-first next rs ts ms l
 
 -- the line that the input ends in
-last-line : (at : Standing) (rs ts ms line l : List ℕ) → length line ≡ 24 → Kept line (at .kept) l → sent at rs ts ms line [] ≡ printed (at .stage) rs ts ms (begun l [])
+last-line : (at : Standing) (rs ts ms line l : List ℕ) → length line ≡ 24 → Kept line (at .kept) l
+    → sent at rs ts ms line [] ≡ printed (at .stage) rs ts ms (begun l [])
 unfolding answered taken sent printed begun
 last-line at rs ts ms line [] h k = rw (le-ltb 0 (at .kept) (omega (arith, k .count)))
 last-line at rs ts ms line (b ∷ l) h k =
@@ -102,15 +107,18 @@ sent-begun (b ∷ bs) at rs ts ms line l h k = split (eqb b 10)
     let none : Kept line (a .reply .kept) [] = rw (answered-kept (at .stage) rs ts ms l) (kept-none line) in
     sent-end at rs ts ms line b bs s
     ∙ ap (λ (x : Left). onward x line bs) (line-answered h k (at .stage) rs ts ms)
-    ∙ ap (λ x. a .reply .text ++ x) (sent-begun bs (standing a) (a .lent .relays) (a .lent .tablets) (a .lent .moves) line [] h none)
+    ∙ ap (λ x. a .reply .text ++ x) (sent-begun bs (standing a) (a .lent .relays) (a .lent .tablets)
+    (a .lent .moves) line [] h none)
     ∙ rw s (ap (printed (at .stage) rs ts ms) (sym (begun-end l (linesOf bs)))))
     (λ s.
     let next : Standing = record { stage = at .stage; kept = min (at .kept + 1) (length line); due = 0 } in
     sent-kept at rs ts ms line b bs s
-    ∙ sent-begun bs next rs ts ms (set line (at .kept) b) (l ++ (b ∷ [])) (length-set line (at .kept) b ∙ h) (kept-more line (at .kept) l b k)
+    ∙ sent-begun bs next rs ts ms (set line (at .kept) b) (l ++ (b ∷ [])) (length-set line (at .kept) b ∙ h)
+    (kept-more line (at .kept) l b k)
     ∙ rw s (ap (printed (at .stage) rs ts ms) (sym (begun-onto l b (linesOf bs)))))
 
 pub sent-printed : (bs : List ℕ) (next : Stage) (rs ts ms line : List ℕ) → length line ≡ 24
     → sent (record { stage = next; kept = 0; due = 0 }) rs ts ms line bs ≡ printed next rs ts ms (linesOf bs)
 unfolding begun
-sent-printed bs next rs ts ms line h = sent-begun bs (record { stage = next; kept = 0; due = 0 }) rs ts ms line [] h (kept-none line)
+sent-printed bs next rs ts ms line h =
+    sent-begun bs (record { stage = next; kept = 0; due = 0 }) rs ts ms line [] h (kept-none line)

@@ -28,7 +28,8 @@ kept-none line = record { count = omega arith; bytes = sym (take-all (length lin
 
 module _ (line : List ℕ) (kept : ℕ) (l : List ℕ) (b : ℕ) (k : Kept line kept l) where
   -- there is room for it
-  bytes-room : length l < length line → take (min (kept + 1) (length line)) (set line kept b) ≡ take (length line) (l ++ (b ∷ []))
+  bytes-room : length l < length line → take (min (kept + 1) (length line)) (set line kept b)
+      ≡ take (length line) (l ++ (b ∷ []))
   bytes-room h =
       let e : min (kept + 1) (length line) ≡ suc kept = omega (arith, k .count) in
       ap (λ n. take n (set line kept b)) e
@@ -37,7 +38,8 @@ module _ (line : List ℕ) (kept : ℕ) (l : List ℕ) (b : ℕ) (k : Kept line 
       ∙ sym (take-all (length line) (l ++ (b ∷ [])) (omega (arith, length-append l (b ∷ []))))
 
   -- there is none
-  bytes-full : length line ≤ length l → take (min (kept + 1) (length line)) (set line kept b) ≡ take (length line) (l ++ (b ∷ []))
+  bytes-full : length line ≤ length l → take (min (kept + 1) (length line)) (set line kept b)
+      ≡ take (length line) (l ++ (b ∷ []))
   bytes-full h =
       let e : min (kept + 1) (length line) ≡ kept = omega (arith, k .count) in
       ap (λ n. take n (set line kept b)) e
@@ -65,7 +67,8 @@ first-echo l = split (ltb 23 (length l))
     (λ s. rw (scheme-long l (ltb-true 23 (length l) s)))
     (λ s. ap (λ x. first x (schemeOf l)) (take-all 24 l (omega (arith, ltb-false 23 (length l) s))))
 
-pub answered-first : (next : Stage) (rs ts ms l : List ℕ) → answered next rs ts ms (take 24 l) ≡ answered next rs ts ms l
+pub answered-first : (next : Stage) (rs ts ms l : List ℕ) → answered next rs ts ms (take 24 l)
+    ≡ answered next rs ts ms l
 unfolding answered
 answered-first First rs ts ms l = ap (unchanged rs ts ms) (ap (first (take 24 l)) (scheme-first l) ∙ first-echo l)
 answered-first (Under s) rs ts ms l = ap (under s rs ts ms) (meaning-first l)

@@ -38,7 +38,8 @@ first-room rs ts ms l names.Other h = record { room = omega arith }
 
 under-room : (s : ℕ) (rs ts ms : List ℕ) (m : lines.Line) → Roomy (under s rs ts ms m)
 unfolding under called unchanged other says
-under-room s rs ts ms (line.Call c) = record { room = answer-room (after s rs ts ms c .reply) (after s rs ts ms c .lent .moves) }
+under-room s rs ts ms (line.Call c) =
+    record { room = answer-room (after s rs ts ms c .reply) (after s rs ts ms c .lent .moves) }
 under-room s rs ts ms line.Other = record { room = omega arith }
 
 answered-room : (next : Stage) (rs ts ms l : List ℕ) → length l ≤ 24 → Roomy (answered next rs ts ms l)
@@ -50,7 +51,8 @@ answered-room Over rs ts ms l h = record { room = omega arith }
 taken-room : (at : Standing) (rs ts ms line : List ℕ) (b : ℕ) → length line ≤ 24 → Roomy (taken at rs ts ms line b)
 unfolding taken keeping unchanged
 taken-room at rs ts ms line b h = split (eqb b 10)
-    (λ s. rw (s, taken) (answered-room (at .stage) rs ts ms (take (at .kept) line) (omega (arith, length-take (at .kept) line))))
+    (λ s. rw (s, taken) (answered-room (at .stage) rs ts ms (take (at .kept) line)
+    (omega (arith, length-take (at .kept) line))))
     (λ s. rw (s, taken) (record { room = omega arith }))
 
 -- ---- what is put is there
@@ -66,7 +68,9 @@ module _ {at : Standing} {rs ts ms line out : List ℕ} {b : ℕ} {r : Standing}
   pub takes-due : Takes at rs ts ms line out b r l line′ out′ → r .due ≤ length out′
   takes-due t = puts-within (t .shows .answer .puts)
 
-  pub takes-whole : Takes at rs ts ms line out b r l line′ out′ → length line ≤ 24 → 44 + 35 * (length (l .moves) / 3) ≤ length out
+  pub takes-whole : Takes at rs ts ms line out b r l line′ out′ → length line ≤ 24
+      → 44 + 35 * (length (l .moves) / 3) ≤ length out
       → take (r .due) out′ ≡ taken at rs ts ms line b .reply .text
   takes-whole t h g =
-      puts-whole (t .shows .answer .puts) (omega (arith, taken-room at rs ts ms line b h .room, ap (λ (x : Lists ℕ). length (x .moves) / 3) (t .shows .lent)))
+      puts-whole (t .shows .answer .puts) (omega
+      (arith, taken-room at rs ts ms line b h .room, ap (λ (x : Lists ℕ). length (x .moves) / 3) (t .shows .lent)))

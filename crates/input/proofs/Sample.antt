@@ -69,6 +69,21 @@ shown =
     ∷ (51 ∷ 32 ∷ 48 ∷ 32 ∷ 48 ∷ 32 ∷ 48 ∷ 10 ∷ [])
     ∷ []
 
-pub sample-holds : Input.printed First (replicate 8 0) (replicate 8 0) (replicate 12 0) (Input.linesOf (joined sample)) ≡ joined shown
-unfolding joined sample shown Input.linesOf Input.printed Lines.answered Lines.under Lines.called Lines.unchanged Stage.first Stage.other Stage.says Line.onto Line.words Line.letterOf Line.withOne Line.withTwo Line.said Line.meaningOf Line.following Line.knownOr Line.named Line.schemeWord Line.schemeOf Decimal.digit Decimal.allDigits Decimal.value Decimal.leadingZero Decimal.plain Decimal.decimalOf Text.digitsBy Text.numberText Text.numberThen Text.replyText Text.moveText Text.moveTextAt Text.movesText Text.answerText Promise.after Promise.left Promise.written Promised.settled Promise.outcomeOf Meaning.ringOf Meaning.lentOf Meaning.places Meaning.fitTables Meaning.restUnused Shape.relaysUsed Shape.tabletsUsed Shape.used Shape.relayFits Shape.tabletFits Shape.all Shape.unused Table.relayPlaces Table.relayNumber Table.relayLimit Table.relayWhole Table.tabletPlaces Table.tabletNumber Table.tabletRelay Table.tabletWhole Tables.flat Tables.filled Tables.relayTable Tables.tabletTable Tables.flatMoves Tables.listed Scheme.known Scheme.positions Scheme.position Clockwise.clockwise Clockwise.distance Clockwise.sooner Entry.numbers Entry.has Entry.besideOf Entry.insert Entry.delete Entry.put Entry.total Entry.count Entry.load Entry.first Entry.upTo Order.queued Order.order Rule.full Rule.hasRoom Rule.seat Rule.seatAll Rule.placement Rule.rising Rule.limitsFit Rule.same Rule.isJust Rule.right Refusals.isDone Refusals.firstBar Calls.edited Calls.orNobody Calls.after Calls.moved Calls.moves Calls.aheadOf Calls.fullAhead Calls.passed Calls.relayOf Calls.wrongNumbers Calls.refusal Calls.accepted Calls.declined Calls.outcome
+pub sample-holds : Input.printed First (replicate 8 0) (replicate 8 0) (replicate 12 0) (Input.linesOf (joined sample))
+    ≡ joined shown
+unfolding joined sample shown Input.linesOf Input.printed Lines.answered Lines.under Lines.called Lines.unchanged
+    Stage.first Stage.other Stage.says Line.onto Line.words Line.letterOf Line.withOne Line.withTwo Line.said
+    Line.meaningOf Line.following Line.knownOr Line.named Line.schemeWord Line.schemeOf Decimal.digit Decimal.allDigits
+    Decimal.value Decimal.leadingZero Decimal.plain Decimal.decimalOf Text.digitsBy Text.numberText Text.numberThen
+    Text.replyText Text.moveText Text.moveTextAt Text.movesText Text.answerText Promise.after Promise.left
+    Promise.written Promised.settled Promise.outcomeOf Meaning.ringOf Meaning.lentOf Meaning.places Meaning.fitTables
+    Meaning.restUnused Shape.relaysUsed Shape.tabletsUsed Shape.used Shape.relayFits Shape.tabletFits Shape.all
+    Shape.unused Table.relayPlaces Table.relayNumber Table.relayLimit Table.relayWhole Table.tabletPlaces
+    Table.tabletNumber Table.tabletRelay Table.tabletWhole Tables.flat Tables.filled Tables.relayTable
+    Tables.tabletTable Tables.flatMoves Tables.listed Scheme.known Scheme.positions Scheme.position Clockwise.clockwise
+    Clockwise.distance Clockwise.sooner Entry.numbers Entry.has Entry.besideOf Entry.insert Entry.delete Entry.put
+    Entry.total Entry.count Entry.load Entry.first Entry.upTo Order.queued Order.order Rule.full Rule.hasRoom Rule.seat
+    Rule.seatAll Rule.placement Rule.rising Rule.limitsFit Rule.same Rule.isJust Rule.right Refusals.isDone
+    Refusals.firstBar Calls.edited Calls.orNobody Calls.after Calls.moved Calls.moves Calls.aheadOf Calls.fullAhead
+    Calls.passed Calls.relayOf Calls.wrongNumbers Calls.refusal Calls.accepted Calls.declined Calls.outcome
 sample-holds = refl

@@ -30,6 +30,7 @@ module _ {at : Standing} {rs ts ms line out : List ℕ} {b : ℕ} where
   unfolding taken lineThen keeping
   takes-kept e p =
       record {
-        shows = rw (ne-eqb b 10 e, taken) (shows-said (record { stage = refl; kept = p .behind; puts = puts-nothing out (omega arith) }));
+        shows = rw (ne-eqb b 10 e, taken) (shows-said
+            (record { stage = refl; kept = p .behind; puts = puts-nothing out (omega arith) }));
         keeps = rw (ne-eqb b 10 e) (p .places);
       }

@@ -25,7 +25,8 @@ pub fn take_byte(
     at: stage::Standing,
     b: u8,
 ) -> stage::Standing
-    ensures { λ r. ⌜ Takes at (now (relays .entry)) (now (tablets .entry)) (now (moves .entry)) (now (line .entry)) (now (answer .entry)) b
+    ensures { λ r. ⌜ Takes at (now (relays .entry)) (now (tablets .entry)) (now (moves .entry)) (now (line .entry))
+        (now (answer .entry)) b
         r (lists (now (relays .exit)) (now (tablets .exit)) (now (moves .exit))) (now (line .exit)) (now (answer .exit)) ⌝ }
 {
     let stage = at.stage;

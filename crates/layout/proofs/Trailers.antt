@@ -15,7 +15,8 @@ use Rattle.ring.specs.Most.{mostRelays, mostTablets}
 use Rattle.ring.proofs.Tests.{split, true-false, and-left, and-right}
 use Rattle.layout.specs.declared.Trailer.{Trailer}
 use Rattle.layout.specs.Opened.{opened, unopened, trailerOf}
-use Rattle.layout.specs.Roster.{trailerBytes, field, relayDistance, relayCount, tabletDistance, tabletCount, rosterScheme, entryBytes, shaped, shapeRight, block, rosterRing, Shape}
+use Rattle.layout.specs.Roster.{trailerBytes, field, relayDistance, relayCount, tabletDistance, tabletCount}
+use Rattle.layout.specs.Roster.{rosterScheme, entryBytes, shaped, shapeRight, block, rosterRing, Shape}
 
 module _ (len back n back₂ m : ℕ) where
   pub relays-many : mostRelays < n → false ≡ shaped len back n back₂ m
@@ -30,18 +31,31 @@ module _ (len back n back₂ m : ℕ) where
     module _ (hm : m ≤ mostTablets) where
       pub tablets-off : (back₂ ≡ trailerBytes + entryBytes * m → ⊥) → false ≡ shaped len back n back₂ m
       unfolding shaped
-      tablets-off h = rw (le-leb n mostRelays hn, le-leb m mostTablets hm, ne-eqb back₂ (trailerBytes + entryBytes * m) h)
+      tablets-off h =
+          rw (le-leb n mostRelays hn, le-leb m mostTablets hm, ne-eqb back₂ (trailerBytes + entryBytes * m) h)
 
       module _ (e : back₂ ≡ trailerBytes + entryBytes * m) where
         pub relays-off : (back ≡ back₂ + entryBytes * n → ⊥) → false ≡ shaped len back n back₂ m
         unfolding shaped
         relays-off h =
-            rw (le-leb n mostRelays hn, le-leb m mostTablets hm, eq-eqb back₂ (trailerBytes + entryBytes * m) e, ne-eqb back (back₂ + entryBytes * n) h)
+            rw (
+              le-leb n mostRelays hn,
+              le-leb m mostTablets hm,
+              eq-eqb back₂ (trailerBytes + entryBytes * m) e,
+              ne-eqb
+                  back (back₂ + entryBytes * n) h,
+            )
 
         pub length-left : back ≡ back₂ + entryBytes * n → eqb len back ≡ shaped len back n back₂ m
         unfolding shaped
         length-left h =
-            rw (le-leb n mostRelays hn, le-leb m mostTablets hm, eq-eqb back₂ (trailerBytes + entryBytes * m) e, eq-eqb back (back₂ + entryBytes * n) h)
+            rw (
+              le-leb n mostRelays hn,
+              le-leb m mostTablets hm,
+              eq-eqb back₂ (trailerBytes + entryBytes * m) e,
+              eq-eqb
+                  back (back₂ + entryBytes * n) h,
+            )
 
 module _ (b : List ℕ) where
   long-opened : leb trailerBytes (length b) ≡ true → trailerOf b ≡ opened b
@@ -56,12 +70,15 @@ module _ (b : List ℕ) where
   unfolding shapeRight
   short-wrong s = rw s
 
-  pub short-trailer : length b < trailerBytes → record { right = false; relays = 0; tablets = 0; scheme = 0 } ≡ trailerOf b
+  pub short-trailer : length b < trailerBytes → record { right = false; relays = 0; tablets = 0; scheme = 0 }
+      ≡ trailerOf b
   unfolding unopened
   short-trailer h = sym (short-unopened (lt-leb trailerBytes (length b) h))
 
-  pub long-trailer : trailerBytes ≤ length b → {back n back₂ m s : ℕ} → back ≡ field b 0 → n ≡ field b 1 → back₂ ≡ field b 2 → m ≡ field b 3 → s ≡ field b 4
-      → {r : Bool} → r ≡ shaped (length b) back n back₂ m → record { right = r; relays = n; tablets = m; scheme = s } ≡ trailerOf b
+  pub long-trailer : trailerBytes ≤ length b → {back n back₂ m s : ℕ} → back ≡ field b 0 → n ≡ field b 1
+      → back₂ ≡ field b 2 → m ≡ field b 3 → s ≡ field b 4
+      → {r : Bool} → r ≡ shaped (length b) back n back₂ m → record { right = r; relays = n; tablets = m; scheme = s }
+      ≡ trailerOf b
   unfolding opened shapeRight
   long-trailer h p q p₂ q₂ c e =
       let l : leb trailerBytes (length b) ≡ true = le-leb trailerBytes (length b) h in
@@ -89,7 +106,12 @@ module _ (b : List ℕ) {t : Trailer} (o : t ≡ trailerOf b) where
       split (leb trailerBytes (length b))
       (λ s.
       let u : t ≡ opened b = o ∙ long-opened b s in
-      record { relays = ap (λ (x : Trailer). x .relays) u; tablets = ap (λ (x : Trailer). x .tablets) u; scheme = ap (λ (x : Trailer). x .scheme) u })
+      record {
+        relays = ap (λ (x : Trailer). x .relays) u;
+        tablets = ap (λ (x : Trailer). x .tablets) u;
+        scheme = ap
+            (λ (x : Trailer). x .scheme) u;
+      })
       (λ s. absurd (true-false (sym e ∙ ap (λ (x : Trailer). x .right) (o ∙ short-unopened b s))))
 
 -- ---- a right shape
@@ -107,7 +129,8 @@ shape-is b e =
     let e₃ : (k₃ && (k₄ && (k₅ && k₆))) ≡ true = and-right k₂ (k₃ && (k₄ && (k₅ && k₆))) e₂ in
     let e₄ : (k₄ && (k₅ && k₆)) ≡ true = and-right k₃ (k₄ && (k₅ && k₆)) e₃ in
     let e₅ : (k₅ && k₆) ≡ true = and-right k₄ (k₅ && k₆) e₄ in
-    let back₂ : tabletDistance b ≡ trailerBytes + entryBytes * tabletCount b = eqb-true _ _ (and-left k₄ (k₅ && k₆) e₄) in
+    let back₂ : tabletDistance b ≡ trailerBytes + entryBytes * tabletCount b = eqb-true _ _
+    (and-left k₄ (k₅ && k₆) e₄) in
     let back : relayDistance b ≡ tabletDistance b + entryBytes * relayCount b = eqb-true _ _ (and-left k₅ k₆ e₅) in
     let len : length b ≡ relayDistance b = eqb-true _ _ (and-right k₅ k₆ e₅) in
     record {
@@ -120,7 +143,11 @@ shape-is b e =
 
 -- the relay block starts the bytes, and the tablet block comes behind it
 pub shape-ring : (b : List ℕ) → Shape b
-    → rosterRing b ≡ record { relays = block b 0 (relayCount b); tablets = block b (entryBytes * relayCount b) (tabletCount b) }
+    → rosterRing b ≡ record {
+      relays = block b 0 (relayCount b);
+      tablets = block b (entryBytes * relayCount b)
+          (tabletCount b);
+    }
 unfolding rosterRing
 shape-ring b s =
     let p : length b - relayDistance b ≡ 0 = omega arith in

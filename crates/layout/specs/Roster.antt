@@ -48,7 +48,8 @@ unfoldable pub shaped : ℕ → ℕ → ℕ → ℕ → ℕ → Bool
 shaped len relayBack relays tabletBack tablets =
     leb relays mostRelays
     && (leb tablets mostTablets
-    && (eqb tabletBack (trailerBytes + entryBytes * tablets) && (eqb relayBack (tabletBack + entryBytes * relays) && eqb len relayBack)))
+    && (eqb tabletBack (trailerBytes + entryBytes * tablets)
+    && (eqb relayBack (tabletBack + entryBytes * relays) && eqb len relayBack)))
 
 -- the length is at least 20, and the trailer's fields are such
 unfoldable pub shapeRight : List ℕ → Bool

@@ -50,7 +50,8 @@ byte-most v b =
     (λ s. rw (d, s) (omega arith)))
     (λ d. rw d (omega arith))
 
-pub byte-next : (w : List ℕ) (v i : ℕ) → i < length w → withBytes v (drop i w) ≡ withBytes (withByte v (getD w i 0)) (drop (i + 1) w)
+pub byte-next : (w : List ℕ) (v i : ℕ) → i < length w → withBytes v (drop i w) ≡ withBytes (withByte v (getD w i 0))
+    (drop (i + 1) w)
 unfolding withBytes
 byte-next w v i h = rw (add-one, drop-cons w i 0)
 
@@ -79,7 +80,8 @@ bytes-all v (b ∷ bs) h =
     split (digit b)
     (λ d. split (ltb w 4294967296)
     (λ s. rw (d, s) (bytes-all w bs (omega (arith, ltb-true w 4294967296 s))))
-    (λ s. rw (d, s) (bytes-all 4294967296 bs (omega arith) ∙ past 4294967296 bs (omega arith) ∙ sym (past w bs (omega (arith, ltb-false w 4294967296 s))))))
+    (λ s. rw (d, s) (bytes-all 4294967296 bs (omega arith) ∙ past 4294967296 bs (omega arith)
+    ∙ sym (past w bs (omega (arith, ltb-false w 4294967296 s))))))
     (λ d. rw d (bytes-all 4294967296 bs (omega arith) ∙ past 4294967296 bs (omega arith)))
 
 -- ---- the number that a word is
@@ -104,5 +106,10 @@ module _ (w : List ℕ) (h : 0 < length w) (z : leadingZero w ≡ false) where
 
   pub decimal-not : 4294967296 ≤ withBytes 0 w → decimalOf w ≡ Not
   decimal-not l = split (allDigits w && leb (value 0 w) 4294967295)
-      (λ s. absurd (omega (arith, rw s at (bytes-all 0 w (omega arith)), leb-true (value 0 w) 4294967295 (and-right (allDigits w) (leb (value 0 w) 4294967295) s))))
+      (λ s. absurd (omega (
+        arith,
+        rw s at (bytes-all 0 w (omega arith)),
+        leb-true (value 0 w) 4294967295
+            (and-right (allDigits w) (leb (value 0 w) 4294967295) s),
+      )))
       (λ s. by-loop false s)

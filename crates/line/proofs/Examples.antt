@@ -35,7 +35,11 @@ examples =
     -- `e 0`, `w 3`, `f 4294967295`
     ∷ record { bytes = 101 ∷ 32 ∷ 48 ∷ []; means = Call (Enrol (record { 0 = 0 })) }
     ∷ record { bytes = 119 ∷ 32 ∷ 51 ∷ []; means = Call (Withdraw (record { 0 = 3 })) }
-    ∷ record { bytes = 102 ∷ 32 ∷ 52 ∷ 50 ∷ 57 ∷ 52 ∷ 57 ∷ 54 ∷ 55 ∷ 50 ∷ 57 ∷ 53 ∷ []; means = Call (Find (record { 0 = 4294967295 })) }
+    ∷ record {
+      bytes = 102 ∷ 32 ∷ 52 ∷ 50 ∷ 57 ∷ 52 ∷ 57 ∷ 54 ∷ 55 ∷ 50 ∷ 57 ∷ 53 ∷ [];
+      means = Call
+          (Find (record { 0 = 4294967295 }));
+    }
     -- `f 4294967296`
     ∷ record { bytes = 102 ∷ 32 ∷ 52 ∷ 50 ∷ 57 ∷ 52 ∷ 57 ∷ 54 ∷ 55 ∷ 50 ∷ 57 ∷ 54 ∷ []; means = Other }
     -- a leading zero: `e 05`, `e 00`
@@ -62,7 +66,8 @@ examples =
     ∷ []
 
 pub examples-hold : meanings examples ≡ expected examples
-unfolding examples meanings expected meaningOf words onto said letterOf withOne withTwo decimalOf plain digit allDigits value leadingZero
+unfolding examples meanings expected meaningOf words onto said letterOf withOne withTwo decimalOf plain digit allDigits
+    value leadingZero
 examples-hold = refl
 
 -- ---- first lines: `scheme 0`, `scheme 1`, `scheme 3`, `scheme 01`, `scheme  1`, `scheme`, `scheme 1` and a carriage return
@@ -74,7 +79,9 @@ schemes (l ∷ ls) = schemeOf l ∷ schemes ls
 pub scheme : List ℕ → List ℕ
 scheme more = 115 ∷ 99 ∷ 104 ∷ 101 ∷ 109 ∷ 101 ∷ more
 
-pub schemes-hold : schemes (scheme (32 ∷ 48 ∷ []) ∷ scheme (32 ∷ 49 ∷ []) ∷ scheme (32 ∷ 51 ∷ []) ∷ scheme (32 ∷ 48 ∷ 49 ∷ []) ∷ scheme (32 ∷ 32 ∷ 49 ∷ []) ∷ scheme [] ∷ scheme (32 ∷ 49 ∷ 13 ∷ []) ∷ [])
+pub schemes-hold : schemes (scheme (32 ∷ 48 ∷ []) ∷ scheme (32 ∷ 49 ∷ []) ∷ scheme (32 ∷ 51 ∷ []) ∷ scheme
+    (32 ∷ 48 ∷ 49 ∷ []) ∷ scheme (32 ∷ 32 ∷ 49 ∷ []) ∷ scheme [] ∷ scheme (32 ∷ 49 ∷ 13 ∷ []) ∷ [])
     ≡ (first.Scheme 0 ∷ first.Scheme 1 ∷ first.Other ∷ first.Other ∷ first.Other ∷ first.Other ∷ first.Other ∷ [])
-unfolding schemes scheme schemeOf schemeWord following named knownOr known decimalOf plain digit allDigits value leadingZero
+unfolding schemes scheme schemeOf schemeWord following named knownOr known decimalOf plain digit allDigits value
+    leadingZero
 schemes-hold = refl

@@ -41,6 +41,7 @@ pub scheme-short : (l : List ℕ) → length l < 7 → schemeOf l ≡ Other
 unfolding schemeWord
 scheme-short l h = scheme-other l (λ e. omega (arith, ap length e, length-take 7 l))
 
-pub scheme-named : (l : List ℕ) → take 7 l ≡ schemeWord → schemeOf l ≡ knownOr (decimalOf (take (length l - 7) (drop 7 l)))
+pub scheme-named : (l : List ℕ) → take 7 l ≡ schemeWord → schemeOf l
+    ≡ knownOr (decimalOf (take (length l - 7) (drop 7 l)))
 unfolding schemeOf schemeWord named
 scheme-named l e = rw (following-same schemeWord l e, part-rest 7 l)

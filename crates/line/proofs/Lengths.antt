@@ -39,10 +39,16 @@ value-raised zero v [] h = omega arith
 value-raised zero v (b ∷ bs) h = omega (arith, value-raised zero (v * 10 + (b - 48)) bs (omega arith))
 value-raised (suc n) v [] h = absurd (omega arith)
 value-raised (suc n) v (b ∷ bs) h =
-    omega (arith, raised-more n (v * 10) (v * 10 + (b - 48)) (omega arith), value-raised n (v * 10 + (b - 48)) bs (omega arith))
+    omega (
+      arith,
+      raised-more n (v * 10) (v * 10 + (b - 48)) (omega arith),
+      value-raised n (v * 10 + (b - 48)) bs
+          (omega arith),
+    )
 
 -- eleven digits with no leading zero are past 4294967295
-large : (b : ℕ) (bs : List ℕ) → 10 ≤ length bs → eqb b 48 ≡ false → allDigits (b ∷ bs) ≡ true → 4294967295 < value 0 (b ∷ bs)
+large : (b : ℕ) (bs : List ℕ) → 10 ≤ length bs → eqb b 48 ≡ false → allDigits (b ∷ bs) ≡ true
+    → 4294967295 < value 0 (b ∷ bs)
 unfolding value raised allDigits
 large b bs h z d =
     let s : 48 ≤ b = digit-least b (and-left (digit b) (allDigits bs) d) in
@@ -112,7 +118,8 @@ said-long (w ∷ x ∷ y ∷ []) h = split (ltb 10 (length x))
     (λ s. rw (decimal-long x (ltb-true 10 (length x) s)) (not-two (letterOf w) (decimalOf y)))
     (λ s. split (ltb 10 (length y))
     (λ t. rw (decimal-long y (ltb-true 10 (length y) t)) (two-not (letterOf w) (decimalOf x)))
-    (λ t. rw (letter-long w (omega (arith, ltb-false 10 (length x) s, ltb-false 10 (length y) t))) (two-none (decimalOf x) (decimalOf y))))
+    (λ t. rw (letter-long w (omega (arith, ltb-false 10 (length x) s, ltb-false 10 (length y) t)))
+    (two-none (decimalOf x) (decimalOf y))))
 said-long (w ∷ x ∷ y ∷ z ∷ more) h = refl
 
 -- ---- the first bytes of a line
@@ -120,7 +127,8 @@ said-long (w ∷ x ∷ y ∷ z ∷ more) h = refl
 module _ {A : Type 0} (f : List ℕ → A) (other : A) (long : (l : List ℕ) → 23 < length l → f l ≡ other) where
   first-bytes : (l : List ℕ) → f (take 24 l) ≡ f l
   first-bytes l = split (ltb 23 (length l))
-      (λ s. let h : 23 < length l = ltb-true 23 (length l) s in long (take 24 l) (omega (arith, length-take 24 l)) ∙ sym (long l h))
+      (λ s. let h : 23 < length l = ltb-true 23 (length l) s in long (take 24 l) (omega (arith, length-take 24 l))
+      ∙ sym (long l h))
       (λ s. ap f (take-all 24 l (omega (arith, ltb-false 23 (length l) s))))
 
 pub meaning-first : (l : List ℕ) → meaningOf (take 24 l) ≡ meaningOf l

@@ -40,7 +40,8 @@ words-one (b ∷ bs) h = split (eqb b 32)
     (λ s. absurd (omega (arith, rw s at h)))
     (λ s. rw (s, words-one bs (omega (arith, rw s at h))))
 
-pub words-more : (l : List ℕ) → indexOf 32 l < length l → words l ≡ take (indexOf 32 l) l ∷ words (drop (suc (indexOf 32 l)) l)
+pub words-more : (l : List ℕ) → indexOf 32 l < length l → words l ≡ take (indexOf 32 l) l ∷ words
+    (drop (suc (indexOf 32 l)) l)
 unfolding words onto indexOf indexAfter
 words-more [] h = absurd (omega arith)
 words-more (b ∷ bs) h = split (eqb b 32)
@@ -90,15 +91,19 @@ said-two w x l = split (ltb (indexOf 32 l) (length l))
     (λ s. rw (words-one l (ltb-false (indexOf 32 l) (length l) s)))
 
 -- the same, with the place of the first space as a search finds it
-module _ (w l : List ℕ) {end : ℕ} (at : end ≡ 0 + indexOf 32 (slice 0 (length l) l)) {first : Number} (f : first ≡ decimalOf (take (end - 0) l)) where
+module _ (w l : List ℕ) {end : ℕ} (at : end ≡ 0 + indexOf 32 (slice 0 (length l) l)) {first : Number}
+    (f : first ≡ decimalOf (take (end - 0) l)) where
   pub rest-one : end ≡ length l → withOne (letterOf w) first ≡ said (w ∷ words l)
   rest-one e =
       rw (f, sub-zero end, e, take-length l) (sym (said-one w l (omega (arith, found l at))))
 
-  pub rest-two : end < length l → {second : Number} → second ≡ decimalOf (take (length l - (end + 1)) (drop (end + 1) l)) → withTwo (letterOf w) first second ≡ said (w ∷ words l)
+  pub rest-two : end < length l → {second : Number}
+      → second ≡ decimalOf (take (length l - (end + 1)) (drop (end + 1) l)) → withTwo (letterOf w) first second
+      ≡ said (w ∷ words l)
   rest-two h g =
       let e : end ≡ indexOf 32 l = found l at in
-      rw (f, sub-zero end, g, part-rest (end + 1) l, words-more l (omega (arith, e)), ← e, ← add-one end) (sym (said-two w (take end l) (drop (end + 1) l)))
+      rw (f, sub-zero end, g, part-rest (end + 1) l, words-more l (omega (arith, e)), ← e, ← add-one end)
+      (sym (said-two w (take end l) (drop (end + 1) l)))
 
 -- ---- a line by its first two bytes
 
@@ -168,10 +173,12 @@ meaning-unspaced (a ∷ b ∷ l) h n = split (eqb a 32)
     (λ s. rw s (idle-said [] (words (b ∷ l)) idle-empty))
     (λ s. rw (s, ne-eqb b 32 n) (onto-twice a b (words l)))
 
-pub meaning-spaced : (l : List ℕ) → 2 ≤ length l → getD l 1 0 ≡ 32 → meaningOf l ≡ said ((getD l 0 0 ∷ []) ∷ words (drop 2 l))
+pub meaning-spaced : (l : List ℕ) → 2 ≤ length l → getD l 1 0 ≡ 32 → meaningOf l
+    ≡ said ((getD l 0 0 ∷ []) ∷ words (drop 2 l))
 unfolding meaningOf words onto
 meaning-spaced [] h e = absurd (omega arith)
 meaning-spaced (a ∷ []) h e = absurd (omega arith)
 meaning-spaced (a ∷ b ∷ l) h e = split (eqb a 32)
-    (λ s. rw (e, s) (idle-said [] ([] ∷ words l) idle-empty ∙ sym (rw (eqb-true a 32 s) (idle-said (32 ∷ []) (words l) idle-space))))
+    (λ s. rw (e, s) (idle-said [] ([] ∷ words l) idle-empty
+    ∙ sym (rw (eqb-true a 32 s) (idle-said (32 ∷ []) (words l) idle-space))))
     (λ s. rw (e, s))

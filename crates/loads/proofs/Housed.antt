@@ -26,15 +26,24 @@ module _ {s : ℕ} {rs ts : List ℕ} {n m : ℕ} {v : Survey} (b : Start s rs t
 
   within-limit : (i : ℕ) → i < n → load (tabletsIn ts m) (relayNumber rs i) ≤ relayLimit rs i
   within-limit i l =
-      let e : held (relaysIn rs n) (relayNumber rs i) ≡ relayLimit rs i = held-places (relayLimit rs) (rises .relays) i l in
+      let e : held (relaysIn rs n) (relayNumber rs i) ≡ relayLimit rs i = held-places (relayLimit rs)
+      (rises .relays) i l in
       omega (arith, rw (start-ring b) at (right-loads (positions s) (ringOf rs ts) (rises .ring) (relayNumber rs i)))
 
   room-left : (i : ℕ) → i < n → load (tabletsIn ts m) (relayNumber rs i) + getD (v .room) i 0 ≡ relayLimit rs i
   room-left i l =
-      omega (arith, within-limit i l, ap (λ (z : List ℕ). getD z i 0) (b .surveyed .left), right-room rises m (le-refl m) i l)
+      omega (
+        arith,
+        within-limit i l,
+        ap (λ (z : List ℕ). getD z i 0) (b .surveyed .left),
+        right-room rises m
+            (le-refl m) i l,
+      )
 
   all-housed : loads (relaysIn rs n) (tabletsIn ts m) ≡ m
-  all-housed = (rw (start-ring b) at (loads-length (positions s) (ringOf rs ts) (rises .ring))) ∙ length-places (tabletNumber ts) (tabletRelay ts) m
+  all-housed =
+      (rw (start-ring b) at (loads-length (positions s) (ringOf rs ts) (rises .ring)))
+      ∙ length-places (tabletNumber ts) (tabletRelay ts) m
 
   pub start-housed : Housed rs ts n m (v .keys) (v .room) (v .slot)
   unfolding placeOf

@@ -18,7 +18,14 @@ pub record Halves (number : ℕ → ℕ) (n x low high : ℕ) : Type 0 where
   pub from : (i : ℕ) → high ≤ i → i < n → x ≤ number i
 
 pub halves-start : (number : ℕ → ℕ) (n x : ℕ) → Halves number n x 0 n
-halves-start number n x = record { order = omega arith; within = omega arith; below = λ i h. absurd (omega arith); from = λ i h k. absurd (omega arith) }
+halves-start number n x =
+    record {
+      order = omega arith;
+      within = omega arith;
+      below = λ i h. absurd (omega arith);
+      from = λ i h k. absurd
+          (omega arith);
+    }
 
 module _ {number : ℕ → ℕ} {n x low high : ℕ} (s : Halves number n x low high) (a : Ascending number n) where
   pub halves-low : (mid : ℕ) → mid < high → number mid < x → Halves number n x (mid + 1) high
@@ -44,4 +51,5 @@ module _ {number : ℕ → ℕ} {n x low high : ℕ} (s : Halves number n x low 
       }
 
 pub halves-end : {number : ℕ → ℕ} {n x low high : ℕ} → Halves number n x low high → high ≤ low → Spot number n x low
-halves-end s h = record { within = omega (arith, s .order, s .within); below = s .below; from = λ i k l. s .from i (omega arith) l }
+halves-end s h =
+    record { within = omega (arith, s .order, s .within); below = s .below; from = λ i k l. s .from i (omega arith) l }

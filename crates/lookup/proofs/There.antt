@@ -40,7 +40,8 @@ module _ {f : ℕ → ℕ} (b : ℕ → ℕ) {n x at : ℕ} (a : Ascending f n) 
       let e : (ltb at n && eqb (f at) x) ≡ true = sym there-is ∙ h in
       (ltb-true at n (and-left (ltb at n) (eqb (f at) x) e), eqb-true (f at) x (and-right (ltb at n) (eqb (f at) x) e))
 
-  pub spot-is : {there : Bool} → there ≡ has (places f b n) x → {r : Refusal} → r ≡ missing x there → isDone r ≡ true → (at < n) × (f at ≡ x)
+  pub spot-is : {there : Bool} → there ≡ has (places f b n) x → {r : Refusal} → r ≡ missing x there → isDone r ≡ true
+      → (at < n) × (f at ≡ x)
   spot-is {there} et er d = spot-here (sym et ∙ missing-there x there (ap isDone (sym er) ∙ d))
 
   pub spot-above : has (places f b n) x ≡ false → (i : ℕ) → at ≤ i → i < n → x < f i

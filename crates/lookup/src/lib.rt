@@ -45,7 +45,8 @@ pub fn tablet_spot(tablets: &[u32], m: usize, t: ring::TabletNumber) -> usize
 // ---- is it there?
 
 pub fn relay_there(relays: &[u32], n: usize, at: usize, r: ring::RelayNumber) -> bool
-    requires { ⌜ RelaysIn (now relays) n × Ascending (relayNumber (now relays)) n × Spot (relayNumber (now relays)) n (r .0) at ⌝ }
+    requires { ⌜ RelaysIn (now relays) n × Ascending (relayNumber (now relays)) n × Spot (relayNumber (now relays)) n
+        (r .0) at ⌝ }
     ensures { λ b. ⌜ b ≡ has (relaysIn (now (relays .entry)) n) (r .0) ⌝ }
 {
     if at < n {
@@ -56,7 +57,8 @@ pub fn relay_there(relays: &[u32], n: usize, at: usize, r: ring::RelayNumber) ->
 }
 
 pub fn tablet_there(tablets: &[u32], m: usize, at: usize, t: ring::TabletNumber) -> bool
-    requires { ⌜ TabletsIn (now tablets) m × Ascending (tabletNumber (now tablets)) m × Spot (tabletNumber (now tablets)) m (t .0) at ⌝ }
+    requires { ⌜ TabletsIn (now tablets) m × Ascending (tabletNumber (now tablets)) m
+        × Spot (tabletNumber (now tablets)) m (t .0) at ⌝ }
     ensures { λ b. ⌜ b ≡ has (tabletsIn (now (tablets .entry)) m) (t .0) ⌝ }
 {
     if at < m {

@@ -50,24 +50,38 @@ module _ (position room : List ℕ) (t : ℕ) where
       split (ltb b a)
       (λ s. split (ltb 0 (getD room n 0))
       (λ r. let k : 0 < getD room n 0 = ltb-true 0 (getD room n 0) r in
-      record { at = n; below = omega arith; hasRoom = k; is = omega (arith, ltb-true b a s, key-open position room t n k) })
+      record {
+        at = n;
+        below = omega arith;
+        hasRoom = k;
+        is = omega
+            (arith, ltb-true b a s, key-open position room t n k);
+      })
       (λ r. absurd (omega (arith, ltb-true b a s, key-shut position room t n (ltb-false 0 (getD room n 0) r)))))
       (λ s.
       let k : Nearest n a = nearest n (omega (arith, ltb-false b a s)) in
-      record { at = k .at; below = omega (arith, k .below); hasRoom = k .hasRoom; is = omega (arith, ltb-false b a s, k .is) })
+      record {
+        at = k .at;
+        below = omega (arith, k .below);
+        hasRoom = k .hasRoom;
+        is = omega
+            (arith, ltb-false b a s, k .is);
+      })
 
   key-below : (q i : ℕ) → i < mostRelays → keyFrom t q i < nobody
   unfolding keyFrom clockwise
   key-below q i h = omega arith
 
-  nearest-first : (n : ℕ) → n ≤ mostRelays → (k : Nearest n (leastKey position room t n)) → firstWithRoom position room t n ≡ k .at
+  nearest-first : (n : ℕ) → n ≤ mostRelays → (k : Nearest n (leastKey position room t n))
+      → firstWithRoom position room t n ≡ k .at
   unfolding firstWithRoom keyFrom
   nearest-first n h k = omega (arith, k .is, k .below)
 
 held-total : (es : List Entry) (q : ℕ) → held es q ≤ total es
 unfolding held total
 held-total [] q = omega arith
-held-total (e ∷ es) q = split (eqb (e .number) q) (λ s. rw s (omega (arith, held-total es q))) (λ s. rw s (omega (arith, held-total es q)))
+held-total (e ∷ es) q =
+    split (eqb (e .number) q) (λ s. rw s (omega (arith, held-total es q))) (λ s. rw s (omega (arith, held-total es q)))
 
 -- ---- the choice
 
@@ -77,7 +91,8 @@ pub record First (p : Positions) (rs room : List ℕ) (n t c : ℕ) : Type 0 whe
   pub hasRoom : 0 < getD room c 0
   pub is : relayNumber rs c ≡ orZero (choose (key p t) (roomed rs room n))
 
-module _ (p : Positions) (rs : List ℕ) (n : ℕ) (few : n ≤ mostRelays) (a : Ascending (relayNumber rs) n) (room : List ℕ) (t : ℕ) where
+module _ (p : Positions) (rs : List ℕ) (n : ℕ) (few : n ≤ mostRelays) (a : Ascending (relayNumber rs) n) (room : List ℕ)
+    (t : ℕ) where
   abbrev position : List ℕ
   position = relayPositions p rs n
 
@@ -105,13 +120,24 @@ module _ (p : Positions) (rs : List ℕ) (n : ℕ) (few : n ≤ mostRelays) (a :
   open-at q h =
       let x : At (relayNumber rs) roomAt n q (held (roomed rs room n) q) = held-at roomAt a q h in
       let o : 0 < getD room (x .at) 0 = omega (arith, x .beside) in
-      record { at = x .at; below = x .below; number = x .number; least = omega (arith, least-low position room from n (x .at) (x .below), key-open position room from (x .at) o) }
+      record {
+        at = x .at;
+        below = x .below;
+        number = x .number;
+        least = omega
+            (arith, least-low position room from n (x .at) (x .below), key-open position room from (x .at) o);
+      }
 
   place : 0 < total (roomed rs room n) → Place
   place h =
       let v : (q : ℕ) × (0 < held (roomed rs room n) q) = total-some (roomed rs room n) h in
       let o : Open (v .0) = open-at (v .0) (v .1) in
-      nearest position room from n (omega (arith, o .least, key-below position room from (getD position (o .at) 0) (o .at) (omega (arith, o .below))))
+      nearest position room from n (omega (
+        arith,
+        o .least,
+        key-below position room from (getD position (o .at) 0)
+            (o .at) (omega (arith, o .below)),
+      ))
 
   place-best : (k : Place) → Best (key p t) (roomed rs room n) (relayNumber rs (k .at))
   unfolding roomed
@@ -120,21 +146,26 @@ module _ (p : Positions) (rs : List ℕ) (n : ℕ) (few : n ≤ mostRelays) (a :
         room = omega (arith, held-places roomAt a (k .at) (k .below), k .hasRoom);
         least = λ q h.
             let o : Open q = open-at q h in
-            rw (← o .number) (key-order p rs n few a t (k .at) (o .at) (k .below) (o .below) .le .0 (omega (arith, k .is, o .least)));
+            rw (← o .number) (key-order p rs n few a t (k .at) (o .at) (k .below) (o .below) .le .0
+            (omega (arith, k .is, o .least)));
       }
 
-  pub first-chosen : 0 < total (roomed rs room n) → First p rs room n t (firstWithRoom (relayPositions p rs n) room (p .tabletAt t) n)
+  pub first-chosen : 0 < total (roomed rs room n)
+      → First p rs room n t (firstWithRoom (relayPositions p rs n) room (p .tabletAt t) n)
   unfolding roomed
   first-chosen h =
       let k : Place = place h in
       let b : Best (key p t) (roomed rs room n) (relayNumber rs (k .at)) = place-best k in
-      let small : (q : ℕ) → 0 < held (roomed rs room n) q → q < 2 ^ 32 = held-small p (roomed rs room n) (table-places roomAt a) in
+      let small : (q : ℕ) → 0 < held (roomed rs room n) q → q < 2 ^ 32 = held-small p (roomed rs room n)
+      (table-places roomAt a) in
       rw (nearest-first position room from n few k)
       (record {
         below = k .below;
         hasRoom = k .hasRoom;
-        is = best-one (key p t) (roomed rs room n) (relayNumber rs (k .at)) (orZero (choose (key p t) (roomed rs room n)))
-            (λ r q x y. key-apart p t r q (small r x) (small q y)) b (choose-best (key p t) (roomed rs room n) (relayNumber rs (k .at)) (b .room));
+        is = best-one (key p t) (roomed rs room n) (relayNumber rs (k .at))
+            (orZero (choose (key p t) (roomed rs room n)))
+            (λ r q x y. key-apart p t r q (small r x) (small q y)) b
+            (choose-best (key p t) (roomed rs room n) (relayNumber rs (k .at)) (b .room));
       })
 
   pub first-beyond : total (roomed rs room n) ≡ 0 → n ≤ firstWithRoom (relayPositions p rs n) room (p .tabletAt t) n

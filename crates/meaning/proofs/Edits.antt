@@ -19,7 +19,8 @@ use Rattle.meaning.proofs.Places.{next, places-cons, places-ext, ascend
 
 -- the first number is not a later one
 first-other : {f : ℕ → ℕ} {n : ℕ} → Ascending f n → (i : ℕ) → suc i < n → eqb (f 0) (f (suc i)) ≡ false
-first-other {f} a i h = ne-eqb (f 0) (f (suc i)) (λ (e : f 0 ≡ f (suc i)). omega (arith, a .up 0 (suc i) (omega arith) h))
+first-other {f} a i h =
+    ne-eqb (f 0) (f (suc i)) (λ (e : f 0 ≡ f (suc i)). omega (arith, a .up 0 (suc i) (omega arith) h))
 
 -- ---- put in
 
@@ -32,12 +33,14 @@ pub record Inserted (f b f′ b′ : ℕ → ℕ) (n at x v : ℕ) : Type 0 wher
   pub here : (f′ at ≡ x) × (b′ at ≡ v)
   pub behind : (i : ℕ) → at ≤ i → i < n → (f′ (suc i) ≡ f i) × (b′ (suc i) ≡ b i)
 
-insert-first : (x v : ℕ) (f b : ℕ → ℕ) (n : ℕ) → ((i : ℕ) → i < n → x < f i) → insert x v (places f b n) ≡ entry x v ∷ places f b n
+insert-first : (x v : ℕ) (f b : ℕ → ℕ) (n : ℕ) → ((i : ℕ) → i < n → x < f i) → insert x v (places f b n)
+    ≡ entry x v ∷ places f b n
 unfolding insert places
 insert-first x v f b zero h = refl
 insert-first x v f b (suc n) h = rw (places-cons f b n, lt-ltb x (f 0) (h 0 (omega arith)), insert)
 
-insert-suc : (f b f′ b′ : ℕ → ℕ) (n at x v : ℕ) → Inserted f b f′ b′ n at x v → insert x v (places f b n) ≡ places f′ b′ (suc n)
+insert-suc : (f b f′ b′ : ℕ → ℕ) (n at x v : ℕ) → Inserted f b f′ b′ n at x v → insert x v (places f b n)
+    ≡ places f′ b′ (suc n)
 unfolding insert
 insert-suc f b f′ b′ n zero x v c =
     insert-first x v f b n (λ i h. c .more i (omega arith) h)
@@ -45,7 +48,8 @@ insert-suc f b f′ b′ n zero x v c =
       places-cons f′ b′ n,
       c .here .0,
       c .here .1,
-      places-ext (next f′) (next b′) f b n (λ i h. c .behind i (omega arith) h .0) (λ i h. c .behind i (omega arith) h .1),
+      places-ext (next f′) (next b′) f b n (λ i h. c .behind i (omega arith) h .0)
+          (λ i h. c .behind i (omega arith) h .1),
     )
 insert-suc f b f′ b′ zero (suc at) x v c = absurd (omega (arith, c .fit))
 insert-suc f b f′ b′ (suc n) (suc at) x v c =
@@ -70,7 +74,8 @@ insert-suc f b f′ b′ (suc n) (suc at) x v c =
           behind = λ i h k. c .behind (suc i) (omega arith) (omega arith);
         }
 
-pub insert-places : {f b f′ b′ : ℕ → ℕ} {n at x v : ℕ} → Inserted f b f′ b′ n at x v → insert x v (places f b n) ≡ places f′ b′ (n + 1)
+pub insert-places : {f b f′ b′ : ℕ → ℕ} {n at x v : ℕ} → Inserted f b f′ b′ n at x v → insert x v (places f b n)
+    ≡ places f′ b′ (n + 1)
 insert-places {f} {b} {f′} {b′} {n} {at} {x} {v} c = rw add-one (insert-suc f b f′ b′ n at x v c)
 
 -- ---- taken out
@@ -81,11 +86,13 @@ pub record Deleted (f b f′ b′ : ℕ → ℕ) (n at : ℕ) : Type 0 where
   pub before : (i : ℕ) → i < at → (f′ i ≡ f i) × (b′ i ≡ b i)
   pub behind : (i : ℕ) → at ≤ i → i < n → (f′ i ≡ f (suc i)) × (b′ i ≡ b (suc i))
 
-delete-suc : (f b f′ b′ : ℕ → ℕ) (n at : ℕ) → Ascending f (suc n) → Deleted f b f′ b′ n at → delete (f at) (places f b (suc n)) ≡ places f′ b′ n
+delete-suc : (f b f′ b′ : ℕ → ℕ) (n at : ℕ) → Ascending f (suc n) → Deleted f b f′ b′ n at
+    → delete (f at) (places f b (suc n)) ≡ places f′ b′ n
 unfolding delete
 delete-suc f b f′ b′ n zero a c =
     rw (places-cons f b n, eq-eqb (f 0) (f 0) refl, delete)
-    (sym (places-ext f′ b′ (next f) (next b) n (λ i h. c .behind i (omega arith) h .0) (λ i h. c .behind i (omega arith) h .1)))
+    (sym (places-ext f′ b′ (next f) (next b) n (λ i h. c .behind i (omega arith) h .0)
+    (λ i h. c .behind i (omega arith) h .1)))
 delete-suc f b f′ b′ zero (suc at) a c = absurd (omega (arith, c .fit))
 delete-suc f b f′ b′ (suc n) (suc at) a c =
     rw (
@@ -106,7 +113,8 @@ delete-suc f b f′ b′ (suc n) (suc at) a c =
           behind = λ i h k. c .behind (suc i) (omega arith) (omega arith);
         }
 
-pub delete-places : {f b f′ b′ : ℕ → ℕ} {n at : ℕ} → Ascending f (n + 1) → Deleted f b f′ b′ n at → delete (f at) (places f b (n + 1)) ≡ places f′ b′ n
+pub delete-places : {f b f′ b′ : ℕ → ℕ} {n at : ℕ} → Ascending f (n + 1) → Deleted f b f′ b′ n at
+    → delete (f at) (places f b (n + 1)) ≡ places f′ b′ n
 delete-places {f} {b} {f′} {b′} {n} {at} a c = rw add-one (delete-suc f b f′ b′ n at (rw add-one at a) c)
 
 -- ---- changed
@@ -118,16 +126,30 @@ pub record Changed (b b′ : ℕ → ℕ) (n at v : ℕ) : Type 0 where
   pub other : (i : ℕ) → i < n → (i ≡ at → ⊥) → b′ i ≡ b i
 
 changed-next : {b b′ : ℕ → ℕ} {n at v : ℕ} → Changed b b′ (suc n) (suc at) v → Changed (next b) (next b′) n at v
-changed-next c = record { below = omega (arith, c .below); here = c .here; other = λ i h d. c .other (suc i) (omega arith) (λ x. d (omega arith)) }
+changed-next c =
+    record {
+      below = omega (arith, c .below);
+      here = c .here;
+      other = λ i h d. c .other (suc i) (omega arith)
+          (λ x. d (omega arith));
+    }
 
-changed-first : (f b b′ : ℕ → ℕ) (n v : ℕ) → Changed b b′ (suc n) 0 v → entry (f 0) v ∷ places (next f) (next b) n ≡ places f b′ (suc n)
+changed-first : (f b b′ : ℕ → ℕ) (n v : ℕ) → Changed b b′ (suc n) 0 v → entry (f 0) v ∷ places (next f) (next b) n
+    ≡ places f b′ (suc n)
 changed-first f b b′ n v c =
-    rw (places-cons f b′ n, c .here, places-ext (next f) (next b′) (next f) (next b) n (λ i h. refl) (λ i h. c .other (suc i) (omega arith) (λ x. omega arith)))
+    rw (
+      places-cons f b′ n,
+      c .here,
+      places-ext (next f) (next b′) (next f) (next b) n (λ i h. refl)
+          (λ i h. c .other (suc i) (omega arith) (λ x. omega arith)),
+    )
 
-pub less-places : {f : ℕ → ℕ} (n : ℕ) → Ascending f n → (b b′ : ℕ → ℕ) (at : ℕ) → 0 < b at → Changed b b′ n at (b at - 1) → less (f at) (places f b n) ≡ places f b′ n
+pub less-places : {f : ℕ → ℕ} (n : ℕ) → Ascending f n → (b b′ : ℕ → ℕ) (at : ℕ) → 0 < b at
+    → Changed b b′ n at (b at - 1) → less (f at) (places f b n) ≡ places f b′ n
 unfolding less
 less-places zero a b b′ at h c = absurd (omega (arith, c .below))
-less-places {f} (suc n) a b b′ zero h c = rw (places-cons f b n, eq-eqb (f 0) (f 0) refl, lt-ltb 0 (b 0) h) (changed-first f b b′ n (b 0 - 1) c)
+less-places {f} (suc n) a b b′ zero h c =
+    rw (places-cons f b n, eq-eqb (f 0) (f 0) refl, lt-ltb 0 (b 0) h) (changed-first f b b′ n (b 0 - 1) c)
 less-places {f} (suc n) a b b′ (suc at) h c =
     rw (
       places-cons f b n,

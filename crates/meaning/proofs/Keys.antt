@@ -34,7 +34,8 @@ module _ (p : Positions) (rs : List ℕ) (n : ℕ) (few : n ≤ mostRelays) (a :
   unfolding keyFrom distance relayPositions
   place-key i h = rw (array-at (λ i. p .relayAt (relayNumber rs i)) n i few h)
 
-  pub key-order : (i l : ℕ) → i < n → l < n → SameOrder (placeKey p rs n t i) (placeKey p rs n t l) (key p t (relayNumber rs i)) (key p t (relayNumber rs l))
+  pub key-order : (i l : ℕ) → i < n → l < n → SameOrder (placeKey p rs n t i) (placeKey p rs n t l)
+      (key p t (relayNumber rs i)) (key p t (relayNumber rs l))
   unfolding key
   key-order i l h k =
       let x : placeKey p rs n t i ≡ distance p t (relayNumber rs i) * 2 ^ 32 + i = place-key i h in
@@ -45,4 +46,5 @@ module _ (p : Positions) (rs : List ℕ) (n : ℕ) (few : n ≤ mostRelays) (a :
       (λ s. omega (arith, ltb-true i l s, a .up i l (ltb-true i l s) k))
       (λ s. split (ltb l i)
       (λ r. omega (arith, ltb-true l i r, a .up l i (ltb-true l i r) h))
-      (λ r. let e : i ≡ l = omega (arith, ltb-false i l s, ltb-false l i r) in omega (arith, ap (relayNumber rs) e, ap (λ (j : ℕ). distance p t (relayNumber rs j)) e)))
+      (λ r. let e : i ≡ l = omega (arith, ltb-false i l s, ltb-false l i r) in omega
+      (arith, ap (relayNumber rs) e, ap (λ (j : ℕ). distance p t (relayNumber rs j)) e)))

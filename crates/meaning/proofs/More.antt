@@ -56,13 +56,15 @@ module _ (f b : ℕ → ℕ) (n r : ℕ) where
   greatest-at : 0 < greatest (places f b n) r → At f b n (greatest (places f b n) r) r
   greatest-at h = sits-places f b n (greatest (places f b n) r) r (greatest-sits (places f b n) r h)
 
-  pub greatest-more : Ascending f (n + 1) → greatest (places f b (n + 1)) r ≡ cond (eqb (b n) r) (f n) (greatest (places f b n) r)
+  pub greatest-more : Ascending f (n + 1) → greatest (places f b (n + 1)) r ≡ cond (eqb (b n) r) (f n)
+      (greatest (places f b n) r)
   unfolding places greatest
   greatest-more a =
       let g : ℕ = greatest (places f b n) r in
       let low : g < f n =
       split (ltb 0 g)
-      (λ s. let t : At f b n g r = greatest-at (ltb-true 0 g s) in omega (arith, a .up (t .at) n (t .below) (omega arith), t .number))
+      (λ s. let t : At f b n g r = greatest-at (ltb-true 0 g s) in omega
+      (arith, a .up (t .at) n (t .below) (omega arith), t .number))
       (λ s. omega (arith, ltb-false 0 g s, a .numbered n (omega arith))) in
       rw add-one
       (greatest-append (places f b n) (entry (f n) (b n) ∷ []) r

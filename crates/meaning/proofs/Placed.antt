@@ -35,12 +35,18 @@ found-is p rs ts n j e =
     let i : ℕ = relayFor p rs ts n j in
     let a : Bool = ltb i n in
     let b : Bool = eqb (relayNumber rs i) (tabletRelay ts j) in
-    record { below = ltb-true i n (and-left a b e); is = eqb-true (relayNumber rs i) (tabletRelay ts j) (and-right a b e) }
+    record {
+      below = ltb-true i n (and-left a b e);
+      is = eqb-true (relayNumber rs i) (tabletRelay ts j)
+          (and-right a b e);
+    }
 
 -- so those found for the first k tablets are those written there
-pub found-seated : (p : Positions) (rs ts : List ℕ) (n k : ℕ) → ((j : ℕ) → j < k → Found p rs ts n j) → seated p rs ts n k ≡ tabletsIn ts k
+pub found-seated : (p : Positions) (rs ts : List ℕ) (n k : ℕ) → ((j : ℕ) → j < k → Found p rs ts n j)
+    → seated p rs ts n k ≡ tabletsIn ts k
 found-seated p rs ts n k f =
-    places-ext (tabletNumber ts) (λ j. relayNumber rs (relayFor p rs ts n j)) (tabletNumber ts) (tabletRelay ts) k (λ j h. refl) (λ j h. f j h .is)
+    places-ext (tabletNumber ts) (λ j. relayNumber rs (relayFor p rs ts n j)) (tabletNumber ts) (tabletRelay ts) k
+    (λ j h. refl) (λ j h. f j h .is)
 
 module _ (p : Positions) (rs ts : List ℕ) (n m : ℕ) (few : n ≤ mostRelays) (a : Ascending (relayNumber rs) n) where
   -- where everybody is found there is room for all
@@ -52,7 +58,8 @@ module _ (p : Positions) (rs ts : List ℕ) (n m : ℕ) (few : n ≤ mostRelays)
       (λ t. absurd (omega (
         arith,
         f s (ltb-true s m t) .below,
-        first-beyond p rs n few a (roomAfter p rs ts n s) (tabletNumber ts s) (omega (arith, run-left p rs ts n few a s (omega arith))),
+        first-beyond p rs n few a (roomAfter p rs ts n s) (tabletNumber ts s)
+            (omega (arith, run-left p rs ts n few a s (omega arith))),
       )))
       (λ t. ltb-false s m t)
 
@@ -77,4 +84,6 @@ module _ (p : Positions) (rs ts : List ℕ) (n m : ℕ) (few : n ≤ mostRelays)
 
     pub placed-from : placed p rs ts n m ≡ true
     unfolding placed
-    placed-from = all-of (placedAt p rs ts n) m (λ j h. placed-there p rs ts n j (relayFor p rs ts n j) refl (ruled-found j h .below) (ruled-found j h .is))
+    placed-from =
+        all-of (placedAt p rs ts n) m (λ j h. placed-there p rs ts n j (relayFor p rs ts n j) refl
+        (ruled-found j h .below) (ruled-found j h .is))

@@ -40,11 +40,17 @@ unfolding places
 places-cons f b zero = refl
 places-cons f b (suc n) = ap (λ (l : List Entry). l ++ (entry (f (suc n)) (b (suc n)) ∷ [])) (places-cons f b n)
 
-pub places-ext : (f b f′ b′ : ℕ → ℕ) (n : ℕ) → ((i : ℕ) → i < n → f i ≡ f′ i) → ((i : ℕ) → i < n → b i ≡ b′ i) → places f b n ≡ places f′ b′ n
+pub places-ext : (f b f′ b′ : ℕ → ℕ) (n : ℕ) → ((i : ℕ) → i < n → f i ≡ f′ i) → ((i : ℕ) → i < n → b i ≡ b′ i)
+    → places f b n ≡ places f′ b′ n
 unfolding places
 places-ext f b f′ b′ zero d e = refl
 places-ext f b f′ b′ (suc n) d e =
-    rw (places-ext f b f′ b′ n (λ i h. d i (omega arith)) (λ i h. e i (omega arith)), d n (omega arith), e n (omega arith))
+    rw (
+      places-ext f b f′ b′ n (λ i h. d i (omega arith)) (λ i h. e i (omega arith)),
+      d n (omega arith),
+      e n
+          (omega arith),
+    )
 
 pub length-places : (f b : ℕ → ℕ) (n : ℕ) → length (places f b n) ≡ n
 unfolding places
@@ -79,30 +85,47 @@ sits-places f b (suc n) x v i =
 
 pub ascending-next : {f : ℕ → ℕ} {n : ℕ} → Ascending f (suc n) → Ascending (next f) n
 ascending-next a =
-    record { up = λ i l h k. a .up (suc i) (suc l) (omega arith) (omega arith); numbered = λ i h. a .numbered (suc i) (omega arith); small = λ i h. a .small (suc i) (omega arith) }
+    record {
+      up = λ i l h k. a .up (suc i) (suc l) (omega arith) (omega arith);
+      numbered = λ i h. a .numbered (suc i)
+          (omega arith);
+      small = λ i h. a .small (suc i) (omega arith);
+    }
 
 pub ascending-fewer : {f : ℕ → ℕ} {n : ℕ} (k : ℕ) → k ≤ n → Ascending f n → Ascending f k
-ascending-fewer k h a = record { up = λ i l u v. a .up i l u (omega arith); numbered = λ i u. a .numbered i (omega arith); small = λ i u. a .small i (omega arith) }
+ascending-fewer k h a =
+    record {
+      up = λ i l u v. a .up i l u (omega arith);
+      numbered = λ i u. a .numbered i
+          (omega arith);
+      small = λ i u. a .small i (omega arith);
+    }
 
 -- a number has one place
 pub ascending-apart : {f : ℕ → ℕ} {n : ℕ} → Ascending f n → (i l : ℕ) → i < n → l < n → f i ≡ f l → i ≡ l
 ascending-apart a i l h k e =
     split (ltb i l)
     (λ s. absurd (omega (arith, a .up i l (ltb-true i l s) k)))
-    (λ s. split (ltb l i) (λ u. absurd (omega (arith, a .up l i (ltb-true l i u) h))) (λ u. omega (arith, ltb-false i l s, ltb-false l i u)))
+    (λ s. split (ltb l i) (λ u. absurd (omega (arith, a .up l i (ltb-true l i u) h)))
+    (λ u. omega (arith, ltb-false i l s, ltb-false l i u)))
 
-rising-places : (f b : ℕ → ℕ) (n low : ℕ) → ((i : ℕ) → i < n → low < f i) → ((i l : ℕ) → i < l → l < n → f i < f l) → Rising low (numbers (places f b n))
+rising-places : (f b : ℕ → ℕ) (n low : ℕ) → ((i : ℕ) → i < n → low < f i) → ((i l : ℕ) → i < l → l < n → f i < f l)
+    → Rising low (numbers (places f b n))
 unfolding places numbers
 rising-places f b zero low h u = tt
 rising-places f b (suc n) low h u =
-    rw (places-cons f b n)
-    (h 0 (omega arith), rising-places (next f) (next b) n (f 0) (λ i k. u 0 (suc i) (omega arith) (omega arith)) (λ i l k m. u (suc i) (suc l) (omega arith) (omega arith)))
+    rw (places-cons f b n) (
+      h 0 (omega arith),
+      rising-places (next f) (next b) n (f 0) (λ i k. u 0 (suc i) (omega arith) (omega arith))
+          (λ i l k m. u (suc i) (suc l) (omega arith) (omega arith)),
+    )
 
 pub table-places : {f : ℕ → ℕ} {n : ℕ} (b : ℕ → ℕ) → Ascending f n → Table (places f b n)
 table-places {f} {n} b a =
     record {
       up = rising-places f b n 0 (a .numbered) (a .up);
-      small = λ x i. let s : At f b n (x .number) (x .beside) = sits-places f b n (x .number) (x .beside) (among-sits (places f b n) x i) in
+      small = λ x i. let s : At f b n (x .number) (x .beside) = sits-places f b n (x .number) (x .beside)
+          (among-sits (places f b n) x i) in
           omega (arith, s .number, a .small (s .at) (s .below));
     }
 
@@ -112,7 +135,8 @@ places-rising f b zero low up i l h k = absurd (omega arith)
 places-rising f b (suc n) low up i zero h k = absurd (omega arith)
 places-rising f b (suc n) low up zero (suc l) h k =
     let r : Rising low (f 0 ∷ numbers (places (next f) (next b) n)) = rw (places-cons f b n) at up in
-    sits-above (places (next f) (next b) n) (f 0) (f (suc l)) (b (suc l)) (r .1) (places-sits (next f) (next b) n l (omega arith))
+    sits-above (places (next f) (next b) n) (f 0) (f (suc l)) (b (suc l)) (r .1)
+    (places-sits (next f) (next b) n l (omega arith))
 places-rising f b (suc n) low up (suc i) (suc l) h k =
     let r : Rising low (f 0 ∷ numbers (places (next f) (next b) n)) = rw (places-cons f b n) at up in
     places-rising (next f) (next b) n (f 0) (r .1) i l (omega arith) (omega arith)
@@ -130,7 +154,8 @@ places-table f b n t =
 module _ {f : ℕ → ℕ} {n : ℕ} (b : ℕ → ℕ) (a : Ascending f n) where
   pub held-places : (i : ℕ) → i < n → held (places f b n) (f i) ≡ b i
   held-places i h =
-      among-held (places f b n) 0 (table-places b a .up) (entry (f i) (b i)) (sits-among (places f b n) (f i) (b i) (places-sits f b n i h))
+      among-held (places f b n) 0 (table-places b a .up) (entry (f i) (b i))
+      (sits-among (places f b n) (f i) (b i) (places-sits f b n i h))
 
   pub beside-places : (i : ℕ) → i < n → besideOf (places f b n) (f i) ≡ b i
   beside-places i h = sym (beside-held (places f b n) 0 (f i) (table-places b a .up)) ∙ held-places i h
@@ -139,9 +164,16 @@ module _ {f : ℕ → ℕ} {n : ℕ} (b : ℕ → ℕ) (a : Ascending f n) where
   pub held-at : (q : ℕ) → 0 < held (places f b n) q → At f b n q (held (places f b n) q)
   held-at q h =
       let e : (e : Entry) × Among e (places f b n) × (e .number ≡ q) = held-among (places f b n) q h in
-      let s : At f b n (e .0 .number) (e .0 .beside) = sits-places f b n (e .0 .number) (e .0 .beside) (among-sits (places f b n) (e .0) (e .1)) in
+      let s : At f b n (e .0 .number) (e .0 .beside) = sits-places f b n (e .0 .number) (e .0 .beside)
+      (among-sits (places f b n) (e .0) (e .1)) in
       let x : f (s .at) ≡ q = s .number ∙ e .2 in
-      record { at = s .at; below = s .below; number = x; beside = sym (held-places (s .at) (s .below)) ∙ ap (held (places f b n)) x }
+      record {
+        at = s .at;
+        below = s .below;
+        number = x;
+        beside = sym (held-places (s .at) (s .below))
+            ∙ ap (held (places f b n)) x;
+      }
 
 -- ---- whether a number is there
 
@@ -159,7 +191,8 @@ module _ (f b : ℕ → ℕ) (n x : ℕ) where
       (λ s. s)
 
   -- a search ends at a place with lesser numbers alone below it, and none from it on
-  pub has-at : Ascending f n → (at : ℕ) → ((i : ℕ) → i < at → f i < x) → ((i : ℕ) → at ≤ i → i < n → x ≤ f i) → has (places f b n) x ≡ (ltb at n && eqb (f at) x)
+  pub has-at : Ascending f n → (at : ℕ) → ((i : ℕ) → i < at → f i < x) → ((i : ℕ) → at ≤ i → i < n → x ≤ f i)
+      → has (places f b n) x ≡ (ltb at n && eqb (f at) x)
   has-at a at h k =
       split (ltb at n)
       (λ s. split (eqb (f at) x)
@@ -171,7 +204,8 @@ module _ (f b : ℕ → ℕ) (n x : ℕ) where
       other i l e d =
           split (ltb i at)
           (λ s. omega (arith, h i (ltb-true i at s)))
-          (λ s. let m : at < i = omega (arith, ltb-false i at s) in omega (arith, k at (omega arith) (omega arith), a .up at i m l))
+          (λ s. let m : at < i = omega (arith, ltb-false i at s) in omega
+          (arith, k at (omega arith) (omega arith), a .up at i m l))
 
 -- ---- limits
 
@@ -179,12 +213,15 @@ pub limits-places : (f b : ℕ → ℕ) (n : ℕ) → ((i : ℕ) → i < n → b
 unfolding places limitsFit
 limits-places f b zero h = refl
 limits-places f b (suc n) h =
-    rw (places-cons f b n, le-leb (b 0) mostLimit (h 0 (omega arith))) (limits-places (next f) (next b) n (λ i k. h (suc i) (omega arith)))
+    rw (places-cons f b n, le-leb (b 0) mostLimit (h 0 (omega arith)))
+    (limits-places (next f) (next b) n (λ i k. h (suc i) (omega arith)))
 
 pub places-limits : (f b : ℕ → ℕ) (n : ℕ) → limitsFit (places f b n) ≡ true → (i : ℕ) → i < n → b i ≤ mostLimit
 unfolding limitsFit
 places-limits f b zero t i h = absurd (omega arith)
 places-limits f b (suc n) t zero h =
-    leb-true (b 0) mostLimit (and-left (leb (b 0) mostLimit) (limitsFit (places (next f) (next b) n)) (rw (places-cons f b n) at t))
+    leb-true (b 0) mostLimit (and-left (leb (b 0) mostLimit) (limitsFit (places (next f) (next b) n))
+    (rw (places-cons f b n) at t))
 places-limits f b (suc n) t (suc i) h =
-    places-limits (next f) (next b) n (and-right (leb (b 0) mostLimit) (limitsFit (places (next f) (next b) n)) (rw (places-cons f b n) at t)) i (omega arith)
+    places-limits (next f) (next b) n (and-right (leb (b 0) mostLimit) (limitsFit (places (next f) (next b) n))
+    (rw (places-cons f b n) at t)) i (omega arith)

@@ -133,14 +133,17 @@ module _ (p : Positions) (rs ts : List ℕ) where
         let e₁ : ((k₃ && k₄) && k₅) ≡ true = and-right (k₁ && k₂) ((k₃ && k₄) && k₅) e in
         let t : (k₃ && k₄) ≡ true = and-left (k₃ && k₄) k₅ e₁ in
         let sr : Shaped mostLimit (relayNumber rs) (relayLimit rs) n (relayPlaces rs) =
-        shape-is mostLimit (relayNumber rs) (relayLimit rs) n (relayPlaces rs) (relay-number-word wr) (and-right k₁ k₂ r) in
+        shape-is mostLimit (relayNumber rs) (relayLimit rs) n (relayPlaces rs) (relay-number-word wr)
+        (and-right k₁ k₂ r) in
         let fr : k₁ ≡ true = and-left k₁ k₂ r in
         record {
           relaysFit = fr;
           tabletsFit = and-left k₃ k₄ t;
           relays = sr;
-          tablets = shape-is topNumber (tabletNumber ts) (tabletRelay ts) m (tabletPlaces ts) (tablet-number-word wt) (and-right k₃ k₄ t);
-          ruled = placed-is p rs ts n m (omega (arith, n-most, whole-relays rs fr .1)) (sr .numbers) (and-right (k₃ && k₄) k₅ e₁);
+          tablets = shape-is topNumber (tabletNumber ts) (tabletRelay ts) m (tabletPlaces ts) (tablet-number-word wt)
+              (and-right k₃ k₄ t);
+          ruled = placed-is p rs ts n m (omega (arith, n-most, whole-relays rs fr .1)) (sr .numbers)
+              (and-right (k₃ && k₄) k₅ e₁);
         }
 
     rule-facts : Fit rs ts → Rule.right p (ringOf rs ts) ≡ true → Facts p rs ts n m
@@ -162,7 +165,10 @@ module _ (p : Positions) (rs ts : List ℕ) where
                 beside = λ j h. omega (arith, tablet-relay-word wt j);
                 rest = rest-is (tabletNumber ts) (tabletRelay ts) m (tabletPlaces ts) (f .tabletsRest);
               };
-          ruled = record { enough = omega (arith, r .enough, length-places (tabletNumber ts) (tabletRelay ts) m); filled = r .ruled };
+          ruled = record {
+            enough = omega (arith, r .enough, length-places (tabletNumber ts) (tabletRelay ts) m);
+            filled = r .ruled;
+          };
         }
 
 -- ---- the laws
@@ -187,10 +193,12 @@ module _ {p : Positions} {rs ts : List ℕ} {n m : ℕ} (r : Rises p rs ts n m) 
   right-found = ruled-found p rs ts n m (r .relaysFit .few) (r .relays) (r .tablets) (r .ruled)
 
   -- the room that the first k tablets leave is the limits less the loads
-  pub right-room : (k : ℕ) → k ≤ m → (i : ℕ) → i < n → getD (Lent.roomAfter p rs ts n k) i 0 ≡ relayLimit rs i - load (tabletsIn ts k) (relayNumber rs i)
+  pub right-room : (k : ℕ) → k ≤ m → (i : ℕ) → i < n → getD (Lent.roomAfter p rs ts n k) i 0 ≡ relayLimit rs i - load
+      (tabletsIn ts k) (relayNumber rs i)
   right-room k h i l =
       omega (
         arith,
         run-room p rs ts n (r .relaysFit .few) (r .relays) k (omega (arith, r .ruled .enough)) i l,
-        ap (λ (x : List Entry). load x (relayNumber rs i)) (found-seated p rs ts n k (λ j u. right-found j (omega arith))),
+        ap (λ (x : List Entry). load x (relayNumber rs i))
+            (found-seated p rs ts n k (λ j u. right-found j (omega arith))),
       )

@@ -44,15 +44,24 @@ module _ (p : Positions) (rs ts : List ℕ) (n : ℕ) (few : n ≤ mostRelays) (
   record Run (k : ℕ) : Type 0 where
     pub left : total (open-now k) + k ≡ total (relaysIn rs n)
     pub room : (q : ℕ) → held (open-now k) q + load (seated p rs ts n k) q ≡ held (relaysIn rs n) q
-    pub filled : (xs : List ℕ) → fill (key p) (relaysIn rs n) (numbers (tabletsIn ts k) ++ xs) ≡ seated p rs ts n k ++ fill (key p) (open-now k) xs
+    pub filled : (xs : List ℕ) → fill (key p) (relaysIn rs n) (numbers (tabletsIn ts k) ++ xs)
+        ≡ seated p rs ts n k ++ fill (key p) (open-now k) xs
 
   at-start : open-now 0 ≡ relaysIn rs n
   unfolding roomed roomAfter relayLimits
-  at-start = places-ext (relayNumber rs) (λ i. getD (relayLimits rs n) i 0) (relayNumber rs) (relayLimit rs) n (λ i h. refl) (λ i h. array-at (relayLimit rs) n i few h)
+  at-start =
+      places-ext (relayNumber rs) (λ i. getD (relayLimits rs n) i 0) (relayNumber rs) (relayLimit rs) n (λ i h. refl)
+      (λ i h. array-at (relayLimit rs) n i few h)
 
   run-start : Run 0
   unfolding places load count numbers
-  run-start = record { left = omega (arith, ap total at-start); room = λ q. omega (arith, ap (λ (l : List Entry). held l q) at-start); filled = λ xs. rw at-start }
+  run-start =
+      record {
+        left = omega (arith, ap total at-start);
+        room = λ q. omega
+            (arith, ap (λ (l : List Entry). held l q) at-start);
+        filled = λ xs. rw at-start;
+      }
 
   module _ (k : ℕ) (r : Run k) (h : k < total (relaysIn rs n)) where
     abbrev t : ℕ
@@ -72,8 +81,14 @@ module _ (p : Positions) (rs ts : List ℕ) (n : ℕ) (few : n ≤ mostRelays) (
     after : less (relayNumber rs c) (open-now k) ≡ open-now (suc k)
     unfolding roomed roomAfter relayFor
     after =
-        less-places n a (λ i. getD (roomAfter p rs ts n k) i 0) (λ i. getD (roomAfter p rs ts n (suc k)) i 0) c (first .hasRoom)
-        (record { below = first .below; here = less-here (roomAfter p rs ts n k) c; other = λ i l d. less-other (roomAfter p rs ts n k) c i d })
+        less-places n a (λ i. getD (roomAfter p rs ts n k) i 0) (λ i. getD (roomAfter p rs ts n (suc k)) i 0) c
+        (first .hasRoom)
+        (record {
+          below = first .below;
+          here = less-here (roomAfter p rs ts n k) c;
+          other = λ i l d. less-other
+              (roomAfter p rs ts n k) c i d;
+        })
 
     -- the tablet takes one room, where there is one
     taken : (q : ℕ) → held (open-now (suc k)) q + cond (eqb (relayNumber rs c) q) 1 0 ≡ held (open-now k) q
@@ -86,7 +101,9 @@ module _ (p : Positions) (rs ts : List ℕ) (n : ℕ) (few : n ≤ mostRelays) (
 
     and-others : (xs : List ℕ) → numbers (tabletsIn ts (suc k)) ++ xs ≡ numbers (tabletsIn ts k) ++ (t ∷ xs)
     unfolding places numbers
-    and-others xs = ap (λ (l : List ℕ). l ++ xs) (numbers-append (tabletsIn ts k) (entry t (tabletRelay ts k) ∷ [])) ∙ append-assoc (numbers (tabletsIn ts k)) (t ∷ []) xs
+    and-others xs =
+        ap (λ (l : List ℕ). l ++ xs) (numbers-append (tabletsIn ts k) (entry t (tabletRelay ts k) ∷ []))
+        ∙ append-assoc (numbers (tabletsIn ts k)) (t ∷ []) xs
 
     run-step : Run (suc k)
     unfolding places
@@ -96,7 +113,9 @@ module _ (p : Positions) (rs ts : List ℕ) (n : ℕ) (few : n ≤ mostRelays) (
           room = λ q. omega (arith, Placing.load-more (seated p rs ts n k) t (relayNumber rs c) q, taken q, r .room q);
           filled = λ xs.
               ap (fill (key p) (relaysIn rs n)) (and-others xs) ∙ r .filled (t ∷ xs)
-              ∙ unfold fill in (rw (← first .is, after) (sym (append-assoc (seated p rs ts n k) (entry t (relayNumber rs c) ∷ []) (fill (key p) (open-now (suc k)) xs))));
+              ∙ unfold fill in (rw (← first .is, after)
+              (sym (append-assoc (seated p rs ts n k) (entry t (relayNumber rs c) ∷ [])
+              (fill (key p) (open-now (suc k)) xs))));
         }
 
   run : (k : ℕ) → k ≤ total (relaysIn rs n) → Run k
@@ -105,7 +124,8 @@ module _ (p : Positions) (rs ts : List ℕ) (n : ℕ) (few : n ≤ mostRelays) (
 
   -- ---- what it says
 
-  pub run-first : (j : ℕ) → j < total (relaysIn rs n) → First p rs (roomAfter p rs ts n j) n (tabletNumber ts j) (relayFor p rs ts n j)
+  pub run-first : (j : ℕ) → j < total (relaysIn rs n) → First p rs (roomAfter p rs ts n j) n (tabletNumber ts j)
+      (relayFor p rs ts n j)
   run-first j h = first j (run j (omega arith)) h
 
   module _ (k : ℕ) (h : k ≤ total (relaysIn rs n)) where
@@ -113,16 +133,26 @@ module _ (p : Positions) (rs ts : List ℕ) (n : ℕ) (few : n ≤ mostRelays) (
     run-left = run k h .left
 
     pub run-more : (xs : List ℕ)
-        → fill (key p) (relaysIn rs n) (numbers (tabletsIn ts k) ++ xs) ≡ seated p rs ts n k ++ fill (key p) (roomed rs (roomAfter p rs ts n k) n) xs
+        → fill (key p) (relaysIn rs n) (numbers (tabletsIn ts k) ++ xs) ≡ seated p rs ts n k ++ fill (key p)
+        (roomed rs (roomAfter p rs ts n k) n) xs
     run-more = run k h .filled
 
     pub run-fill : seated p rs ts n k ≡ fill (key p) (relaysIn rs n) (numbers (tabletsIn ts k))
-    run-fill = sym (ap (fill (key p) (relaysIn rs n)) (sym (append-nil (numbers (tabletsIn ts k)))) ∙ run-more [] ∙ unfold fill in (append-nil (seated p rs ts n k)))
+    run-fill =
+        sym (ap (fill (key p) (relaysIn rs n)) (sym (append-nil (numbers (tabletsIn ts k)))) ∙ run-more []
+        ∙ unfold fill in (append-nil (seated p rs ts n k)))
 
-    pub run-held : (q : ℕ) → held (roomed rs (roomAfter p rs ts n k) n) q + load (seated p rs ts n k) q ≡ held (relaysIn rs n) q
+    pub run-held : (q : ℕ) → held (roomed rs (roomAfter p rs ts n k) n) q + load (seated p rs ts n k) q
+        ≡ held (relaysIn rs n) q
     run-held = run k h .room
 
-    pub run-room : (i : ℕ) → i < n → getD (roomAfter p rs ts n k) i 0 + load (seated p rs ts n k) (relayNumber rs i) ≡ relayLimit rs i
+    pub run-room : (i : ℕ) → i < n → getD (roomAfter p rs ts n k) i 0 + load (seated p rs ts n k) (relayNumber rs i)
+        ≡ relayLimit rs i
     unfolding roomed
     run-room i l =
-        omega (arith, run-held (relayNumber rs i), held-places (λ i. getD (roomAfter p rs ts n k) i 0) a i l, held-places (relayLimit rs) a i l)
+        omega (
+          arith,
+          run-held (relayNumber rs i),
+          held-places (λ i. getD (roomAfter p rs ts n k) i 0) a i l,
+          held-places (relayLimit rs) a i l,
+        )

@@ -24,7 +24,8 @@ unused-is x v e = (eqb-true x 0 (and-left (eqb x 0) (eqb v 0) e), eqb-true v 0 (
 module _ (f b : ℕ → ℕ) (n most : ℕ) where
   pub rest-is : restUnused f b n most ≡ true → (i : ℕ) → n ≤ i → i < most → (f i ≡ 0) × (b i ≡ 0)
   unfolding restUnused
-  rest-is e i h k = unused-is (f i) (b i) (rw (le-ltb i n h) at (all-at (λ i. ltb i n || unused (f i) (b i)) most i e k))
+  rest-is e i h k =
+      unused-is (f i) (b i) (rw (le-ltb i n h) at (all-at (λ i. ltb i n || unused (f i) (b i)) most i e k))
 
   pub rest-from : ((i : ℕ) → n ≤ i → i < most → (f i ≡ 0) × (b i ≡ 0)) → restUnused f b n most ≡ true
   unfolding restUnused unused
@@ -64,8 +65,13 @@ module _ (top : ℕ) (f b : ℕ → ℕ) (n most : ℕ) where
   shape-from w s =
       rw (
         le-leb n most w,
-        all-of (entryAt top f b) n (λ i h. rw (lt-ltb (previous f i) (f i) (above i h), le-leb (b i) top (s .beside i h))),
-        all-of (unusedAt f b n) (most - n) (λ i h. rw (s .rest (n + i) (omega arith) (omega arith) .0, s .rest (n + i) (omega arith) (omega arith) .1)),
+        all-of (entryAt top f b) n (λ i h. rw (
+          lt-ltb (previous f i) (f i) (above i h),
+          le-leb (b i) top
+              (s .beside i h),
+        )),
+        all-of (unusedAt f b n) (most - n) (λ i h. rw
+            (s .rest (n + i) (omega arith) (omega arith) .0, s .rest (n + i) (omega arith) (omega arith) .1)),
       )
     where
       above : (i : ℕ) → i < n → previous f i < f i

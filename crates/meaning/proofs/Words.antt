@@ -27,7 +27,8 @@ module _ {l : List ℕ} (w : Words l) (i : ℕ) where
   tablet-relay-word = w .fit (2 * i + 1)
 
 -- of a slice with two numbers to a place and nothing over
-beyond : (l : List ℕ) (i k : ℕ) → eqb (length l % 2) 0 ≡ true → length l / 2 ≤ i → 2 * i ≤ k → _≡_ {A = ℕ} (getD l k 0) 0
+beyond : (l : List ℕ) (i k : ℕ) → eqb (length l % 2) 0 ≡ true → length l / 2 ≤ i → 2 * i ≤ k
+    → _≡_ {A = ℕ} (getD l k 0) 0
 beyond l i k e h d = List·getD-eq-default l 0 (omega (arith, eqb-true (length l % 2) 0 e))
 
 module _ (l : List ℕ) (i : ℕ) where

@@ -46,7 +46,8 @@ tablesRight scheme rs ts = fitTables rs ts && right (positions scheme) (ringOf r
 
 -- the two refusals of what is lent, before those that follow
 unfoldable pub tablesBars : ℕ → List ℕ → List ℕ → List Bar → List Bar
-tablesBars scheme rs ts later = bar (not (known scheme)) SchemeUnknown ∷ bar (not (tablesRight scheme rs ts)) TablesNotRight ∷ later
+tablesBars scheme rs ts later =
+    bar (not (known scheme)) SchemeUnknown ∷ bar (not (tablesRight scheme rs ts)) TablesNotRight ∷ later
 
 -- the refusal that every call gives for what is lent, whatever else it is given
 unfoldable pub tablesRefusal : ℕ → List ℕ → List ℕ → Refusal
@@ -55,7 +56,13 @@ tablesRefusal scheme rs ts = firstBar (tablesBars scheme rs ts [])
 -- a move takes three numbers of the list
 unfoldable pub lentOf : ℕ → List ℕ → List ℕ → List ℕ → Lent
 lentOf scheme rs ts ms =
-    record { known = known scheme; fit = fitTables rs ts; relayPlaces = relayPlaces rs; tabletPlaces = tabletPlaces ts; movePlaces = length ms / 3 }
+    record {
+      known = known scheme;
+      fit = fitTables rs ts;
+      relayPlaces = relayPlaces rs;
+      tabletPlaces = tabletPlaces ts;
+      movePlaces = length ms / 3;
+    }
 
 -- ---- for the loops
 

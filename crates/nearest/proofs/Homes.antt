@@ -14,17 +14,26 @@ use Rattle.home.specs.Home.{keyAt}
 use Rattle.nearest.specs.Nearest.{inSlots, Nearest, itself, round, HomeAt}
 use Rattle.nearest.proofs.Nearer.{behind-is}
 
-module _ {position keys : List ℕ} {n t k : ℕ} (few : n ≤ mostRelays) (ring : Ordered position n keys) (below : t < 2 ^ 32)
+module _ {position keys : List ℕ} {n t k : ℕ} (few : n ≤ mostRelays) (ring : Ordered position n keys)
+    (below : t < 2 ^ 32)
     (o : Nearest keys n t k) where
   rises : KeysRise n keys
   rises = ring .rises
 
   small : (l : ℕ) → l < n → getD keys l 0 < 2 ^ 64
   unfolding ringKey
-  small l c = omega (arith, ring .holds .key l c, ring .holds .relay l c, ring .holds .small (slotRelay keys l) (ring .holds .relay l c))
+  small l c =
+      omega (
+        arith,
+        ring .holds .key l c,
+        ring .holds .relay l c,
+        ring .holds .small (slotRelay keys l)
+            (ring .holds .relay l c),
+      )
 
   -- slot l is no nearer
-  behind : (l : ℕ) → l < n → clockwise t (getD keys k 0 / 2 ^ 32) * 2 ^ 32 + k ≤ clockwise t (getD keys l 0 / 2 ^ 32) * 2 ^ 32 + l
+  behind : (l : ℕ) → l < n → clockwise t (getD keys k 0 / 2 ^ 32) * 2 ^ 32 + k ≤ clockwise t
+      (getD keys l 0 / 2 ^ 32) * 2 ^ 32 + l
   unfolding distance
   behind l c = behind-is keys t k l (omega (arith, o .inside)) (omega arith) (o .first l c)
 
@@ -38,7 +47,8 @@ module _ {position keys : List ℕ} {n t k : ℕ} (few : n ≤ mostRelays) (ring
         home = record {
           begins = record {
             within = omega (arith, o .inside);
-            passed = λ l c. let b : k < n = omega (arith, o .inside) in omega (arith, behind l (omega arith), rises .up l k c b, small k b);
+            passed = λ l c. let b : k < n = omega (arith, o .inside) in omega
+                (arith, behind l (omega arith), rises .up l k c b, small k b);
           };
           ahead = λ l c d. onward l c d (decLt k l);
         };
@@ -58,5 +68,6 @@ module _ {position keys : List ℕ} {n t k : ℕ} (few : n ≤ mostRelays) (ring
       }
         where
           lowest : Dec (0 < k) → k ≡ 0
-          lowest (yes b) = absurd (omega (arith, behind 0 (omega (arith, o .inside)), rises .up 0 k b (omega (arith, o .inside))))
+          lowest (yes b) =
+              absurd (omega (arith, behind 0 (omega (arith, o .inside)), rises .up 0 k b (omega (arith, o .inside))))
           lowest (no b) = omega arith

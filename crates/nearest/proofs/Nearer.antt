@@ -19,20 +19,23 @@ use Rattle.ring.proofs.Tests.{split}
 use Rattle.nearest.specs.Nearest.{inSlots, Nearest}
 
 module _ (keys : List ℕ) (t k l : ℕ) (hk : k < mostRelays) (hl : l < mostRelays) where
-  pub behind-is : sooner (inSlots keys) t l k ≡ false → distance (inSlots keys) t k * 2 ^ 32 + k ≤ distance (inSlots keys) t l * 2 ^ 32 + l
+  pub behind-is : sooner (inSlots keys) t l k ≡ false → distance (inSlots keys) t k * 2 ^ 32 + k ≤ distance
+      (inSlots keys) t l * 2 ^ 32 + l
   unfolding key
   behind-is e =
       ltb-false (key (inSlots keys) t l) (key (inSlots keys) t k)
       (sym (sooner-key (inSlots keys) t l k (omega arith) (omega arith)) ∙ e)
 
-  pub behind-from : distance (inSlots keys) t k * 2 ^ 32 + k ≤ distance (inSlots keys) t l * 2 ^ 32 + l → sooner (inSlots keys) t l k ≡ false
+  pub behind-from : distance (inSlots keys) t k * 2 ^ 32 + k ≤ distance (inSlots keys) t l * 2 ^ 32 + l
+      → sooner (inSlots keys) t l k ≡ false
   unfolding key
   behind-from h =
       sooner-key (inSlots keys) t l k (omega arith) (omega arith)
       ∙ le-ltb (key (inSlots keys) t l) (key (inSlots keys) t k) h
 
 -- at unequal distances d and e
-pub sooner-apart : (p : Positions) (t r q : ℕ) {d e : ℕ} → d ≡ distance p t r → e ≡ distance p t q → (d ≡ e → ⊥) → ltb d e ≡ sooner p t r q
+pub sooner-apart : (p : Positions) (t r q : ℕ) {d e : ℕ} → d ≡ distance p t r → e ≡ distance p t q → (d ≡ e → ⊥)
+    → ltb d e ≡ sooner p t r q
 sooner-apart p t r q {d} {e} dr eq ne =
     split (ltb d e)
     (λ s. s ∙ sym (sooner-near p t r q (omega (arith, ltb-true d e s))))
@@ -65,13 +68,19 @@ module _ {keys : List ℕ} {n t : ℕ} where
 
     pub scanned-closer : d < least → Scanned keys n t k d (k + 1)
     scanned-closer h =
-        record { some = omega arith; within = omega arith; far = e; nearest = record { inside = omega arith; first = λ l c. go l c (decLt l k) } }
+        record {
+          some = omega arith;
+          within = omega arith;
+          far = e;
+          nearest = record { inside = omega arith; first = λ l c. go l c (decLt l k) };
+        }
       where
         go : (l : ℕ) → l < k + 1 → Dec (l < k) → sooner (inSlots keys) t l k ≡ false
         go l c (yes a) =
             let was = behind-is keys t first l (omega (arith, inside)) (omega arith) (o .nearest .first l a) in
             behind-from keys t k l (omega arith) (omega arith) (omega (arith, o .far, inside))
-        go l c (no a) = let z : l ≡ k = omega arith in rw z (behind-from keys t k k (omega arith) (omega arith) (omega arith))
+        go l c (no a) =
+            let z : l ≡ k = omega arith in rw z (behind-from keys t k k (omega arith) (omega arith) (omega arith))
 
     pub scanned-stays : least ≤ d → Scanned keys n t first least (k + 1)
     scanned-stays h = record {
@@ -84,7 +93,9 @@ module _ {keys : List ℕ} {n t : ℕ} where
         go : (l : ℕ) → l < k + 1 → Dec (l < k) → sooner (inSlots keys) t l first ≡ false
         go l c (yes a) = o .nearest .first l a
         go l c (no a) =
-            let z : l ≡ k = omega arith in rw z (behind-from keys t first k (omega (arith, inside)) (omega arith) (omega (arith, o .far, inside)))
+            let z : l ≡ k = omega arith in rw z (behind-from keys t first k (omega (arith, inside)) (omega arith)
+            (omega (arith, o .far, inside)))
 
   pub scanned-end : {first least k : ℕ} → n ≤ k → Scanned keys n t first least k → Nearest keys n t first
-  scanned-end h o = record { inside = omega (arith, o .nearest .inside, o .within); first = λ l c. o .nearest .first l (omega arith) }
+  scanned-end h o =
+      record { inside = omega (arith, o .nearest .inside, o .within); first = λ l c. o .nearest .first l (omega arith) }

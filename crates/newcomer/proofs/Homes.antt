@@ -35,7 +35,8 @@ round-home rs keys n (round e z) =
     (λ d c. ap (λ (k : ℕ). relayLimit rs (slotRelay keys k)) (slot-past n d c)))
 
 pub order-home : (p : Positions) (rs : List ℕ) (n : ℕ) → n ≤ mostRelays → Ascending (relayNumber rs) n → (keys : List ℕ)
-    → Ordered (relayPositions p rs n) n keys → (t : ℕ) → p .tabletAt t < 2 ^ 32 → (k : ℕ) → Nearest keys n (p .tabletAt t) k
+    → Ordered (relayPositions p rs n) n keys → (t : ℕ) → p .tabletAt t < 2 ^ 32 → (k : ℕ)
+    → Nearest keys n (p .tabletAt t) k
     → order p t (relaysIn rs n) ≡ Slots.round rs keys n k n
 order-home p rs n few a keys o t small k d =
     let b : HomeAt keys n (p .tabletAt t) k = nearest-home few o small d in

@@ -66,7 +66,8 @@ total-zero f b (suc n) h =
 total-least : (f b : ℕ → ℕ) (n i : ℕ) → i < n → b i ≤ total (places f b n)
 total-least f b zero i c = absurd (omega arith)
 total-least f b (suc n) i c =
-    let e : total (places f b (suc n)) ≡ total (places f b n) + b n = ap (λ (k : ℕ). total (places f b k)) (sym (add-one n)) ∙ total-more f b n in
+    let e : total (places f b (suc n)) ≡ total (places f b n) + b n = ap (λ (k : ℕ). total (places f b k))
+    (sym (add-one n)) ∙ total-more f b n in
     split (eqb i n)
     (λ s. omega (arith, ap b (eqb-true i n s)))
     (λ s. let ne : i ≡ n → ⊥ = eqb-false i n s in omega (arith, total-least f b n i (omega arith)))
@@ -78,7 +79,8 @@ firstNew [] = 0
 firstNew (m ∷ ms) = m .new .0
 
 module _ (x : ℕ) (rs ts place seat : List ℕ) where
-  pub chain-split : (c : ℕ) → chainOf x rs ts place seat (suc c) ≡ linkAt x rs ts place seat 0 ∷ othersOf x rs ts place seat c
+  pub chain-split : (c : ℕ) → chainOf x rs ts place seat (suc c) ≡ linkAt x rs ts place seat 0
+      ∷ othersOf x rs ts place seat c
   unfolding chainOf othersOf
   chain-split zero = refl
   chain-split (suc c) = ap (λ (l : List Move). l ++ (linkAt x rs ts place seat (suc c) ∷ [])) (chain-split c)
@@ -86,7 +88,9 @@ module _ (x : ℕ) (rs ts place seat : List ℕ) where
   pub length-others : (c : ℕ) → length (othersOf x rs ts place seat c) ≡ c
   unfolding othersOf
   length-others zero = refl
-  length-others (suc c) = length-append (othersOf x rs ts place seat c) (linkAt x rs ts place seat (suc c) ∷ []) ∙ omega (arith, length-others c)
+  length-others (suc c) =
+      length-append (othersOf x rs ts place seat c) (linkAt x rs ts place seat (suc c) ∷ [])
+      ∙ omega (arith, length-others c)
 
 module _ {s : ℕ} {rs ts : List ℕ} {n m : ℕ} {v : Survey} (b : Start s rs ts n m v) (t : TabletNumber) where
   abbrev p : Positions
@@ -107,7 +111,8 @@ module _ {s : ℕ} {rs ts : List ℕ} {n m : ℕ} {v : Survey} (b : Start s rs t
   -- ---- refusals
 
   pub number-bars : (ms : List ℕ) (there : Bool) → there ≡ has (tabletsIn ts m) x
-      → firstBar (wrongNumbers (lentOf s rs ts ms) (ringOf rs ts) (Enrol t)) ≡ newcomerRefusal x there (tabletPlaces ts) m
+      → firstBar (wrongNumbers (lentOf s rs ts ms) (ringOf rs ts) (Enrol t)) ≡ newcomerRefusal x there
+      (tabletPlaces ts) m
   unfolding wrongNumbers newcomerRefusal lentOf
   number-bars ms there e =
       ap (λ (g : Ring). firstBar (wrongNumbers (lentOf s rs ts ms) g (Enrol t))) (start-ring b)
@@ -133,7 +138,8 @@ module _ {s : ℕ} {rs ts : List ℕ} {n m : ℕ} {v : Survey} (b : Start s rs t
     unfolding edited
     limits-are = ap (λ (g : Ring). total (g .relays)) (start-ring b)
 
-    pub shut-small : opens ≡ false → total (edited (ringOf rs ts) (Enrol t) .relays) < length (edited (ringOf rs ts) (Enrol t) .tablets)
+    pub shut-small : opens ≡ false → total (edited (ringOf rs ts) (Enrol t) .relays) < length
+        (edited (ringOf rs ts) (Enrol t) .tablets)
     shut-small e = omega (arith, limits-are, after-one, left, none-left)
       where
         shut : (i : ℕ) → i < n → getD room i 0 ≡ 0
@@ -141,7 +147,8 @@ module _ {s : ℕ} {rs ts : List ℕ} {n m : ℕ} {v : Survey} (b : Start s rs t
             let sl = b .surveyed .ordered .holds .every i c in
             split (ltb 0 (getD room i 0))
             (λ z. absurd (true-false
-            (sym (both-true (k .leads .opens (sl .slot) (sl .below) (unfold slotRoom in (rw (sl .is) (ltb-true 0 (getD room i 0) z))))
+            (sym (both-true (k .leads .opens (sl .slot) (sl .below)
+            (unfold slotRoom in (rw (sl .is) (ltb-true 0 (getD room i 0) z))))
             (omega arith)) ∙ sym (k .opens-is) ∙ e)))
             (λ z. omega (arith, ltb-false 0 (getD room i 0) z))
           where
@@ -156,7 +163,9 @@ module _ {s : ℕ} {rs ts : List ℕ} {n m : ℕ} {v : Survey} (b : Start s rs t
       some-relay = ltb-true 0 n (and-left (ltb 0 n) (ltb 0 (slotRoom keys room stop)) (sym (k .opens-is) ∙ e))
 
       stop-room : 0 < slotRoom keys room stop
-      stop-room = ltb-true 0 (slotRoom keys room stop) (and-right (ltb 0 n) (ltb 0 (slotRoom keys room stop)) (sym (k .opens-is) ∙ e))
+      stop-room =
+          ltb-true 0 (slotRoom keys room stop) (and-right (ltb 0 n) (ltb 0 (slotRoom keys room stop))
+          (sym (k .opens-is) ∙ e))
 
       pub stop-inside : stop < n
       stop-inside = k .leads .inside some-relay
@@ -169,7 +178,8 @@ module _ {s : ℕ} {rs ts : List ℕ} {n m : ℕ} {v : Survey} (b : Start s rs t
           let y : 0 < getD room (slotRelay keys stop) 0 = unfold slotRoom in stop-room in
           omega (arith, left)
 
-      pub open-enough : length (edited (ringOf rs ts) (Enrol t) .tablets) ≤ total (edited (ringOf rs ts) (Enrol t) .relays)
+      pub open-enough : length (edited (ringOf rs ts) (Enrol t) .tablets) ≤ total
+          (edited (ringOf rs ts) (Enrol t) .relays)
       open-enough = omega (arith, limits-are, after-one, room-left)
 
       -- ---- the turn
@@ -184,7 +194,8 @@ module _ {s : ℕ} {rs ts : List ℕ} {n m : ℕ} {v : Survey} (b : Start s rs t
       d = stepsTo n h stop
 
       -- a relay of the round has room exactly where its slot has
-      room-slot : (i : ℕ) → i < n → hasRoom (tabletsIn ts m) (entry (roundNumber rs keys n h i) (roundLimit rs keys n h i)) ≡ ltb 0
+      room-slot : (i : ℕ) → i < n → hasRoom (tabletsIn ts m)
+          (entry (roundNumber rs keys n h i) (roundLimit rs keys n h i)) ≡ ltb 0
           (slotRoom keys room (slotAt n h i))
       unfolding hasRoom roundNumber roundLimit slotRoom
       room-slot i c =
@@ -193,10 +204,13 @@ module _ {s : ℕ} {rs ts : List ℕ} {n m : ℕ} {v : Survey} (b : Start s rs t
           let z : getD room j 0 ≡ relayLimit rs j - load (tabletsIn ts m) (relayNumber rs j) =
           ap (λ (l : List ℕ). getD l j 0) (b .surveyed .left) ∙ right-room rises m (omega arith) j inside in
           split (ltb (load (tabletsIn ts m) (relayNumber rs j)) (relayLimit rs j))
-          (λ s. s ∙ sym (lt-ltb 0 (getD room j 0) (omega (arith, ltb-true (load (tabletsIn ts m) (relayNumber rs j)) (relayLimit rs j) s))))
-          (λ s. s ∙ sym (le-ltb 0 (getD room j 0) (omega (arith, ltb-false (load (tabletsIn ts m) (relayNumber rs j)) (relayLimit rs j) s))))
+          (λ s. s ∙ sym (lt-ltb 0 (getD room j 0)
+          (omega (arith, ltb-true (load (tabletsIn ts m) (relayNumber rs j)) (relayLimit rs j) s))))
+          (λ s. s ∙ sym (le-ltb 0 (getD room j 0)
+          (omega (arith, ltb-false (load (tabletsIn ts m) (relayNumber rs j)) (relayLimit rs j) s))))
 
-      none-before : (i : ℕ) → i < d → hasRoom (tabletsIn ts m) (entry (roundNumber rs keys n h i) (roundLimit rs keys n h i)) ≡ false
+      none-before : (i : ℕ) → i < d → hasRoom (tabletsIn ts m)
+          (entry (roundNumber rs keys n h i) (roundLimit rs keys n h i)) ≡ false
       none-before i c =
           let few : d < n = steps-inside n h in-ring stop stop-inside in
           let ci : i < n = omega arith in
@@ -206,7 +220,8 @@ module _ {s : ℕ} {rs ts : List ℕ} {n m : ℕ} {v : Survey} (b : Start s rs t
             arith,
             steps-slot n h in-ring i ci,
             ahead-steps n h in-ring stop (slotAt n h i) stop-inside (slot-inside n h in-ring i ci)
-                (k .leads .ahead (slotAt n h i) (slot-inside n h in-ring i ci) (ltb-true 0 (slotRoom keys room (slotAt n h i)) s)),
+                (k .leads .ahead (slotAt n h i) (slot-inside n h in-ring i ci)
+                (ltb-true 0 (slotRoom keys room (slotAt n h i)) s)),
           )))
           (λ s. s)
 
@@ -220,7 +235,8 @@ module _ {s : ℕ} {rs ts : List ℕ} {n m : ℕ} {v : Survey} (b : Start s rs t
 
       module _ (small : p .tabletAt x < 2 ^ 32) where
         the-order : order p x (relaysIn rs n) ≡ round rs keys n h n
-        the-order = order-home p rs n (rises .relaysFit .few) (rises .relays) keys (b .surveyed .ordered) x small h (k .home)
+        the-order =
+            order-home p rs n (rises .relaysFit .few) (rises .relays) keys (b .surveyed .ordered) x small h (k .home)
 
         abbrev f : Entry
         f = entry (roundNumber rs keys n h d) (roundLimit rs keys n h d)
@@ -245,23 +261,27 @@ module _ {s : ℕ} {rs ts : List ℕ} {n m : ℕ} {v : Survey} (b : Start s rs t
           many = omega (arith, length-places (tabletNumber ts) (tabletRelay ts) m, room-left)
 
           abbrev chain : Chain (tabletsIn ts m) x
-              (seats (turn (tabletsIn ts m) (newcomer x) (upTo (hasRoom (tabletsIn ts m)) (order p x (relaysIn rs n)))) (f .number))
+              (seats (turn (tabletsIn ts m) (newcomer x) (upTo (hasRoom (tabletsIn ts m)) (order p x (relaysIn rs n))))
+              (f .number))
           chain = enrol-chain p ring right t some-number not-in many f the-first
 
           pub steps-passed : passed p (ringOf rs ts) (Enrol t) ≡ d
           steps-passed =
-              ap (λ (g : Ring). passed p g (Enrol t)) (start-ring b) ∙ enrol-passed p ring right t some-number not-in many
+              ap (λ (g : Ring). passed p g (Enrol t)) (start-ring b)
+              ∙ enrol-passed p ring right t some-number not-in many
               ∙ ap length the-fulls ∙ length-places (roundNumber rs keys n h) (roundLimit rs keys n h) d
 
           module _ {c y : ℕ} {place seat : List ℕ} (w : Chained rs ts n m keys h stop x c y place seat) where
             stop-number : f .number ≡ relayNumber rs (slotRelay keys stop)
             stop-number = unfold roundNumber in (ap (λ (z : ℕ). relayNumber rs (slotRelay keys z)) at-stop)
 
-            the-chain : move x 0 (chain .seat) ∷ chain .rest ≡ linkAt x rs ts place seat 0 ∷ othersOf x rs ts place seat c
+            the-chain : move x 0 (chain .seat) ∷ chain .rest ≡ linkAt x rs ts place seat 0
+                ∷ othersOf x rs ts place seat c
             the-chain =
                 sym (chain .is)
                 ∙ ap (λ (l : List Entry). seats (turn (tabletsIn ts m) (newcomer x) l) (f .number)) the-fulls
-                ∙ ap (λ (z : ℕ). seats (turn (tabletsIn ts m) (newcomer x) (round rs keys n h z)) (f .number)) (sym (w .steps))
+                ∙ ap (λ (z : ℕ). seats (turn (tabletsIn ts m) (newcomer x) (round rs keys n h z)) (f .number))
+                (sym (w .steps))
                 ∙ ap (seats (turn (tabletsIn ts m) (newcomer x) (round rs keys n h y))) stop-number
                 ∙ w .is ∙ ap (chainOf x rs ts place seat) (add-one c) ∙ chain-split x rs ts place seat c
 
@@ -274,26 +294,31 @@ module _ {s : ℕ} {rs ts : List ℕ} {n m : ℕ} {v : Survey} (b : Start s rs t
 
             pub others-moves : moves p (ringOf rs ts) (Enrol t) ≡ othersOf x rs ts place seat c
             others-moves =
-                ap (λ (g : Ring). moves p g (Enrol t)) (start-ring b) ∙ enrol-moves p ring right t some-number not-in many f the-first ∙ the-rest
+                ap (λ (g : Ring). moves p g (Enrol t)) (start-ring b)
+                ∙ enrol-moves p ring right t some-number not-in many f the-first ∙ the-rest
 
             pub others-above : Rising x (tabletsListed (othersOf x rs ts place seat c))
             others-above = subst (λ (z : List Move). Rising x (tabletsListed z)) the-rest (chain .up)
 
             pub first-relay : relayOf p (ringOf rs ts) (Enrol t) ≡ relayNumber rs (getD seat 0 0)
             first-relay =
-                ap (λ (g : Ring). relayOf p g (Enrol t)) (start-ring b) ∙ enrol-relay p ring right t some-number not-in many f the-first ∙ the-seat
+                ap (λ (g : Ring). relayOf p g (Enrol t)) (start-ring b)
+                ∙ enrol-relay p ring right t some-number not-in many f the-first ∙ the-seat
 
             pub others-after : Calls.after p (ringOf rs ts) (Enrol t) .tablets ≡ seated (othersOf x rs ts place seat c)
                 (insert x (relayNumber rs (getD seat 0 0)) (tabletsIn ts m))
             others-after =
-                ap (λ (g : Ring). Calls.after p g (Enrol t) .tablets) (start-ring b) ∙ enrol-after p ring right t some-number not-in many f the-first
+                ap (λ (g : Ring). Calls.after p g (Enrol t) .tablets) (start-ring b)
+                ∙ enrol-after p ring right t some-number not-in many f the-first
                 ∙ ap (λ (z : List Move). seated z (insert x (chain .seat) (tabletsIn ts m))) the-rest
                 ∙ ap (λ (z : ℕ). seated (othersOf x rs ts place seat c) (insert x z (tabletsIn ts m))) the-seat
 
 -- ---- the search for home and stop
 
-pub seeks : (s : ℕ) {n x q h stop : ℕ} {keys room next : List ℕ} {i : ℕ} {opens : Bool} → n ≤ mostRelays → Row keys room n 0 next
-    → q ≡ positions s .tabletAt x → q < 2 ^ 32 → Nearest keys n q h → stop ≡ getD next (h % mostRelays) 0 → i ≡ slotRelay keys stop
+pub seeks : (s : ℕ) {n x q h stop : ℕ} {keys room next : List ℕ} {i : ℕ} {opens : Bool} → n ≤ mostRelays
+    → Row keys room n 0 next
+    → q ≡ positions s .tabletAt x → q < 2 ^ 32 → Nearest keys n q h → stop ≡ getD next (h % mostRelays) 0
+    → i ≡ slotRelay keys stop
     → opens ≡ (ltb 0 n && ltb 0 (getD room i 0)) → Seeks (positions s) n keys room x h stop opens
 seeks s {n = n} {h = h} {keys = keys} {room = room} few row eq word home es ei eo =
     record {

@@ -56,7 +56,8 @@ pub test-true : {b : Bool} (r : Refusal) → b ≡ isDone r → not b ≡ false 
 test-true {b} r e h = sym e ∙ not-false b h
 
 -- a refusal, and nothing planned
-pub refused-plan : {s : ℕ} {rs ts ms : List ℕ} {t : TabletNumber} (p : Enrolment) (r : Refusal) → p .refusal ≡ r → isDone r ≡ false
+pub refused-plan : {s : ℕ} {rs ts ms : List ℕ} {t : TabletNumber} (p : Enrolment) (r : Refusal) → p .refusal ≡ r
+    → isDone r ≡ false
     → refusal (positions s) (lentOf s rs ts ms) (ringOf rs ts) (Enrol t) ≡ r → Prepared s rs ts ms t p
 refused-plan p r e n h = record { refusal = e ∙ sym h; worked = λ d. absurd (true-false (sym d ∙ ap isDone e ∙ n)) }
 
@@ -66,7 +67,8 @@ pub record BarsPassed (x : ℕ) (there : Bool) (places m : ℕ) : Type 0 where
   pub new : there ≡ false
   pub unused : m < places
 
-pub bars-passed : (x : ℕ) (there : Bool) (places m : ℕ) → isDone (newcomerRefusal x there places m) ≡ true → BarsPassed x there places m
+pub bars-passed : (x : ℕ) (there : Bool) (places m : ℕ) → isDone (newcomerRefusal x there places m) ≡ true
+    → BarsPassed x there places m
 unfolding newcomerRefusal isDone
 bars-passed x there places m h =
     let a = bar-passed (eqb x 0) _ _ refl h in
@@ -76,7 +78,8 @@ bars-passed x there places m h =
     record { some-number = omega arith; new = b .0; unused = leb-false places m (c .0) }
 
 -- what is known of the newcomer once the tables are right: its place, whether it is there, and how many places there are
-pub record Asked (s : ℕ) (rs ts : List ℕ) (n m : ℕ) (v : Survey) (t : TabletNumber) (at : ℕ) (there : Bool) (places : ℕ) : Type 0 where
+pub record Asked (s : ℕ) (rs ts : List ℕ) (n m : ℕ) (v : Survey) (t : TabletNumber) (at : ℕ) (there : Bool)
+    (places : ℕ) : Type 0 where
   pub start : Start s rs ts n m v
   pub spot : Spot (tabletNumber ts) m (t .0) at
   pub known : there ≡ has (tabletsIn ts m) (t .0)
@@ -96,19 +99,25 @@ module _ {s : ℕ} {rs ts : List ℕ} {n m : ℕ} {v : Survey} {t : TabletNumber
   bars : (ms : List ℕ) → firstBar (Calls.wrongNumbers (lentOf s rs ts ms) (ringOf rs ts) (Enrol t)) ≡ bar
   bars ms = number-bars b t ms there (a .known) ∙ ap (λ (z : ℕ). newcomerRefusal (t .0) there z m) (sym (a .all))
 
-  pub barred-plan : {ms : List ℕ} (p : Enrolment) (r : Refusal) → r ≡ bar → p .refusal ≡ r → isDone r ≡ false → Prepared s rs ts ms t p
+  pub barred-plan : {ms : List ℕ} (p : Enrolment) (r : Refusal) → r ≡ bar → p .refusal ≡ r → isDone r ≡ false
+      → Prepared s rs ts ms t p
   barred-plan {ms} p r e ep n = refused-plan p r ep n (number-refused s rs ts ms (Enrol t) b r (bars ms ∙ sym e) n)
 
-  module _ (fine : isDone bar ≡ true) {h stop : ℕ} {opens : Bool} (k : Seeks (positions s) n (v .keys) (v .room) (t .0) h stop opens) where
+  module _ (fine : isDone bar ≡ true) {h stop : ℕ} {opens : Bool}
+      (k : Seeks (positions s) n (v .keys) (v .room) (t .0) h stop opens) where
     free : BarsPassed (t .0) there places m
     free = bars-passed (t .0) there places m fine
 
-    numbers-fine : (ms : List ℕ) → isDone (firstBar (Calls.wrongNumbers (lentOf s rs ts ms) (ringOf rs ts) (Enrol t))) ≡ true
+    numbers-fine : (ms : List ℕ) → isDone (firstBar (Calls.wrongNumbers (lentOf s rs ts ms) (ringOf rs ts) (Enrol t)))
+        ≡ true
     numbers-fine ms = ap isDone (bars ms) ∙ fine
 
-    pub shut-plan : {ms : List ℕ} (p : Enrolment) → p .refusal ≡ LimitsTooSmall → opens ≡ false → Prepared s rs ts ms t p
+    pub shut-plan : {ms : List ℕ} (p : Enrolment) → p .refusal ≡ LimitsTooSmall → opens ≡ false
+        → Prepared s rs ts ms t p
     unfolding isDone
-    shut-plan {ms} p e o = refused-plan p LimitsTooSmall e refl (limits-refused s rs ts ms (Enrol t) b (numbers-fine ms) (shut-small b t k o))
+    shut-plan {ms} p e o =
+        refused-plan p LimitsTooSmall e refl (limits-refused s rs ts ms (Enrol t) b (numbers-fine ms)
+        (shut-small b t k o))
 
     module _ (o : opens ≡ true) where
       pub turn-from : From (positions s) rs ts n m (v .keys) (v .last) h stop
@@ -127,7 +136,8 @@ module _ {s : ℕ} {rs ts : List ℕ} {n m : ℕ} {v : Survey} {t : TabletNumber
         the-moves : moves (positions s) (ringOf rs ts) (Enrol t) ≡ othersOf (t .0) rs ts place seat c
         the-moves = others-moves b t k o small (free .some-number) (sym (a .known) ∙ free .new) w
 
-        pub short-plan : {ms : List ℕ} (p : Enrolment) → p .refusal ≡ MoveListTooShort → length ms / 3 < c → Prepared s rs ts ms t p
+        pub short-plan : {ms : List ℕ} (p : Enrolment) → p .refusal ≡ MoveListTooShort → length ms / 3 < c
+            → Prepared s rs ts ms t p
         unfolding isDone
         short-plan {ms} p e l =
             refused-plan p MoveListTooShort e refl
@@ -135,7 +145,8 @@ module _ {s : ℕ} {rs ts : List ℕ} {n m : ℕ} {v : Survey} {t : TabletNumber
             (unfold lentOf in (omega (arith, ap length the-moves, length-others (t .0) rs ts place seat c))))
 
         pub whole-plan : {ms : List ℕ} (p : Enrolment) → p .refusal ≡ Done → p .m ≡ m → p .at ≡ at
-            → p .chain ≡ record { others = c; steps = d; place = place; seat = seat } → c ≤ length ms / 3 → Prepared s rs ts ms t p
+            → p .chain ≡ record { others = c; steps = d; place = place; seat = seat } → c ≤ length ms / 3
+            → Prepared s rs ts ms t p
         whole-plan {ms} p er em ea ec l =
             record {
               refusal = er ∙ sym (all-passed s rs ts ms (Enrol t) b (numbers-fine ms) (open-enough b t k o)
@@ -143,20 +154,34 @@ module _ {s : ℕ} {rs ts : List ℕ} {n m : ℕ} {v : Survey} {t : TabletNumber
               worked = λ _. rw (em, ea, ec)
                   (record {
                     seatable = record {
-                      few = omega (arith, w .few, w .steps, steps-inside n h (in-ring b t k o) stop (stop-inside b t k o), rises .relaysFit .few);
+                      few = omega (
+                        arith,
+                        w .few,
+                        w .steps,
+                        steps-inside n h (in-ring b t k o) stop
+                            (stop-inside b t k o),
+                        rises .relaysFit .few,
+                      );
                       tablets = rises .tabletsFit .there;
                       climbs = record { up = rises .tablets .up };
                       places = w .places;
                       relays = λ i l. omega (arith, w .relays i l, rises .relaysFit .there);
                       list = omega arith;
                     };
-                    short = omega (arith, w .steps, steps-inside n h (in-ring b t k o) stop (stop-inside b t k o), rises .relaysFit .few);
+                    short = omega (
+                      arith,
+                      w .steps,
+                      steps-inside n h (in-ring b t k o) stop
+                          (stop-inside b t k o),
+                      rises .relaysFit .few,
+                    );
                     above = others-above b t k o small (free .some-number) (sym (a .known) ∙ free .new) w;
                     unused = omega (arith, free .unused, a .all);
                     place = record { within = a .spot .within; below = a .spot .below; above = above-at };
                     whole = tablets-whole b;
                     zeros = tablets-zeros b;
-                    passed = steps-passed b t k o small (free .some-number) (sym (a .known) ∙ free .new) ∙ sym (w .steps);
+                    passed = steps-passed b t k o small (free .some-number) (sym (a .known) ∙ free .new)
+                        ∙ sym (w .steps);
                     moves = the-moves;
                     relay = first-relay b t k o small (free .some-number) (sym (a .known) ∙ free .new) w;
                     tablets = others-after b t k o small (free .some-number) (sym (a .known) ∙ free .new) w;
@@ -167,7 +192,8 @@ module _ {s : ℕ} {rs ts : List ℕ} {n m : ℕ} {v : Survey} {t : TabletNumber
             above-at : (i : ℕ) → at ≤ i → i < m → t .0 < tabletNumber ts i
             above-at i l q =
                 let ne : tabletNumber ts i ≡ t .0 → ⊥ =
-                λ e. true-false (sym (has-place (tabletNumber ts) (tabletRelay ts) m (t .0) i q e) ∙ sym (a .known) ∙ free .new) in
+                λ e. true-false (sym (has-place (tabletNumber ts) (tabletRelay ts) m (t .0) i q e) ∙ sym (a .known)
+                ∙ free .new) in
                 omega (arith, a .spot .from i l q)
 
             relays-still : rs ≡ relayTable (length rs) (Calls.after (positions s) (ringOf rs ts) (Enrol t))

@@ -32,7 +32,8 @@ use Rattle.newcomer.specs.declared.Enrolment.{Enrolment}
 
 -- the refusals 3, 6 and 7
 unfoldable pub newcomerRefusal : ℕ → Bool → ℕ → ℕ → Refusal
-newcomerRefusal number there places m = firstBar (bar (eqb number 0) NumberZero ∷ bar there ThereAlready ∷ bar (leb places m) NoUnusedPlace ∷ [])
+newcomerRefusal number there places m =
+    firstBar (bar (eqb number 0) NumberZero ∷ bar there ThereAlready ∷ bar (leb places m) NoUnusedPlace ∷ [])
 
 -- the slot of the newcomer's home, and the first slot with room from there, if any has room
 pub record Seeks (p : Positions) (n : ℕ) (keys room : List ℕ) (x h stop : ℕ) (opens : Bool) : Type 0 where
@@ -70,7 +71,8 @@ pub record Worked (scheme : ℕ) (rs ts ms : List ℕ) (t : TabletNumber) (m at 
   pub moves : moves (positions scheme) (ringOf rs ts) (Enrol t) ≡ othersOf (t .0) rs ts (c .place) (c .seat) (c .others)
   pub relay : relayOf (positions scheme) (ringOf rs ts) (Enrol t) ≡ relayNumber rs (getD (c .seat) 0 0)
   pub tablets : Calls.after (positions scheme) (ringOf rs ts) (Enrol t) .tablets
-      ≡ seated (othersOf (t .0) rs ts (c .place) (c .seat) (c .others)) (insert (t .0) (relayNumber rs (getD (c .seat) 0 0)) (tabletsIn ts m))
+      ≡ seated (othersOf (t .0) rs ts (c .place) (c .seat) (c .others))
+      (insert (t .0) (relayNumber rs (getD (c .seat) 0 0)) (tabletsIn ts m))
   pub relays : rs ≡ relayTable (length rs) (Calls.after (positions scheme) (ringOf rs ts) (Enrol t))
 
 pub record Prepared (scheme : ℕ) (rs ts ms : List ℕ) (t : TabletNumber) (p : Enrolment) : Type 0 where

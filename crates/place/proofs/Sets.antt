@@ -22,14 +22,17 @@ beside-set l k v h =
       besides = λ i d. getD-set-other l (2 * k + 1) (2 * i + 1) v 0 (λ (z : 2 * i + 1 ≡ 2 * k + 1). d (omega arith));
     }
 
-pub place-set : (l : List ℕ) (k x v : ℕ) → 2 * k + 1 < length l → SetPlace firstOf secondOf l (set (set l (2 * k) x) (2 * k + 1) v) k x v
+pub place-set : (l : List ℕ) (k x v : ℕ) → 2 * k + 1 < length l
+    → SetPlace firstOf secondOf l (set (set l (2 * k) x) (2 * k + 1) v) k x v
 place-set l k x v h =
     let n : length (set l (2 * k) x) ≡ length l = length-set l (2 * k) x in
-    let s : SetBeside firstOf secondOf (set l (2 * k) x) (set (set l (2 * k) x) (2 * k + 1) v) k v = beside-set (set l (2 * k) x) k v (omega arith) in
+    let s : SetBeside firstOf secondOf (set l (2 * k) x) (set (set l (2 * k) x) (2 * k + 1) v) k v = beside-set
+    (set l (2 * k) x) k v (omega arith) in
     record {
       size = s .size ∙ n;
       number = s .numbers k ∙ getD-set-same l (2 * k) x 0 (omega arith);
       beside = s .beside;
       numbers = λ i d. s .numbers i ∙ getD-set-other l (2 * k) (2 * i) x 0 (λ (z : 2 * i ≡ 2 * k). d (omega arith));
-      besides = λ i d. s .besides i d ∙ getD-set-other l (2 * k) (2 * i + 1) x 0 (λ (z : 2 * i + 1 ≡ 2 * k). omega arith);
+      besides = λ i d. s .besides i d ∙ getD-set-other l (2 * k) (2 * i + 1) x 0
+          (λ (z : 2 * i + 1 ≡ 2 * k). omega arith);
     }

@@ -1,6 +1,6 @@
 -- A plan carried out, a tablet at a time.
 --   move-room, moved-none, moved-made                            one tablet stays or moves
---   carrying-none, carrying-moves, carrying-more, carrying-end, carrying-list   no tablet has its new relay; one more may get it, and gets it; all have
+-- carrying-none, carrying-moves, carrying-more, carrying-end, carrying-list   no tablet has its new relay; one more may get it, and gets it; all have
 -- Assumes nothing.
 use mathlib.Core.Bool.{Bool, false}
 use mathlib.Core.List.{List, [], _∷_}
@@ -38,7 +38,8 @@ module _ {rs ts ms : List ℕ} {i j c o n : ℕ} (eo : o ≡ tabletRelay ts j) (
     count = picks-same _ _ eo en e;
   }
 
-  pub moved-made : {ts′ ms′ : List ℕ} {t : ℕ} → t ≡ tabletNumber ts j → (o ≡ n → ⊥) → ms′ ≡ setMove ms c t o n → SetBeside tabletNumber tabletRelay ts ts′ j n
+  pub moved-made : {ts′ ms′ : List ℕ} {t : ℕ} → t ≡ tabletNumber ts j → (o ≡ n → ⊥) → ms′ ≡ setMove ms c t o n
+      → SetBeside tabletNumber tabletRelay ts ts′ j n
       → MovedOne rs ts ts′ ms ms′ i j c (c + 1)
   moved-made et h em s = record {
     tablets = rw (← en) s;
@@ -68,11 +69,13 @@ carrying-none rs relay ts ms = record {
   count = refl;
 }
 
-pub carrying-end : {rs relay ts ts′ ms ms′ : List ℕ} {m j c : ℕ} → j ≤ m → m ≤ j → Carrying rs relay ts ts′ ms ms′ j c → Carried rs relay ts ts′ ms ms′ m c
+pub carrying-end : {rs relay ts ts′ ms ms′ : List ℕ} {m j c : ℕ} → j ≤ m → m ≤ j → Carrying rs relay ts ts′ ms ms′ j c
+    → Carried rs relay ts ts′ ms ms′ m c
 carrying-end {rs} {relay} {ts} {ts′} {ms} {ms′} {m} {j} l u s = record {
   tablets = record {
     size = s .size;
-    entries = places-ext (tabletNumber ts′) (tabletRelay ts′) (tabletNumber ts) (newRelay rs relay) m (λ i h. s .numbers i) (λ i h. s .carried i (omega arith));
+    entries = places-ext (tabletNumber ts′) (tabletRelay ts′) (tabletNumber ts) (newRelay rs relay) m
+        (λ i h. s .numbers i) (λ i h. s .carried i (omega arith));
     number = λ i h. s .numbers i;
     relay = λ i h. s .others i (omega arith);
   };
@@ -81,15 +84,18 @@ carrying-end {rs} {relay} {ts} {ts′} {ms} {ms′} {m} {j} l u s = record {
 }
 
 -- the list is as long as it was
-pub carrying-list : {rs relay ts ts′ ms ms′ : List ℕ} {m j c : ℕ} → Carries rs relay ts ms m → j ≤ m → Carrying rs relay ts ts′ ms ms′ j c → length ms′ ≡ length ms
+pub carrying-list : {rs relay ts ts′ ms ms′ : List ℕ} {m j c : ℕ} → Carries rs relay ts ms m → j ≤ m
+    → Carrying rs relay ts ts′ ms ms′ j c → length ms′ ≡ length ms
 unfolding changesTo
 carrying-list {rs} {relay} {ts} {ms = ms} {m = m} {j = j} asked l s =
     ap length (s .list)
-    ∙ length-listed (changesTo rs relay ts j) ms (omega (arith, asked .room, changes-fewer (tabletNumber ts) (tabletRelay ts) (newRelay rs relay) j m l))
+    ∙ length-listed (changesTo rs relay ts j) ms
+    (omega (arith, asked .room, changes-fewer (tabletNumber ts) (tabletRelay ts) (newRelay rs relay) j m l))
 
 -- ---- tablet j
 
-module _ {rs relay ts ts′ ms ms′ : List ℕ} {m j c i : ℕ} (asked : Carries rs relay ts ms m) (more : j < m) (s : Carrying rs relay ts ts′ ms ms′ j c)
+module _ {rs relay ts ts′ ms ms′ : List ℕ} {m j c i : ℕ} (asked : Carries rs relay ts ms m) (more : j < m)
+    (s : Carrying rs relay ts ts′ ms ms′ j c)
     (e : i ≡ getD relay j 0) where
   abbrev test : Bool
   test = eqb (tabletRelay ts j) (newRelay rs relay j)
@@ -135,7 +141,14 @@ module _ {rs relay ts ts′ ms ms′ : List ℕ} {m j c i : ℕ} (asked : Carrie
           listed-more (changesTo rs relay ts j) ms o (s .list) (s .count) (one-more t)
               (rw (same-test, t) at (d .list) ∙ rw (s .numbers j, s .others j (omega arith), e))
               ∙ ap (λ (l : List Move). listed l ms) (sym q),
-          omega (arith, rw (same-test, t) at (d .count), s .count, ap length q, length-append (changesTo rs relay ts j) (o ∷ [])),
+          omega (
+            arith,
+            rw (same-test, t) at (d .count),
+            s .count,
+            ap length q,
+            length-append (changesTo rs relay ts j)
+                (o ∷ []),
+          ),
         ))
 
     pub carrying-more : Carrying rs relay ts ts″ ms ms″ (j + 1) c′

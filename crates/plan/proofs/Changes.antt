@@ -48,13 +48,15 @@ module _ (f b d : ℕ → ℕ) where
 
   -- ---- how many
 
-  changes-count : {c v : ℕ} (j : ℕ) → c ≡ length (changes f b d j) → v ≡ cond (eqb (b j) (d j)) 0 1 → c + v ≡ length (changes f b d (j + 1))
+  changes-count : {c v : ℕ} (j : ℕ) → c ≡ length (changes f b d j) → v ≡ cond (eqb (b j) (d j)) 0 1
+      → c + v ≡ length (changes f b d (j + 1))
   changes-count j e h =
       split (eqb (b j) (d j))
       (λ s. omega (arith, rw s at h, ap length (changes-same j s)))
       (λ s. omega (arith, rw s at h, ap length (changes-other j s), length-append (changes f b d j) (moveOf j ∷ [])))
 
-  changes-step : (j : ℕ) → (length (changes f b d j) ≤ length (changes f b d (j + 1))) × (length (changes f b d (j + 1)) ≤ length (changes f b d j) + 1)
+  changes-step : (j : ℕ) → (length (changes f b d j) ≤ length (changes f b d (j + 1)))
+      × (length (changes f b d (j + 1)) ≤ length (changes f b d j) + 1)
   changes-step j =
       split (eqb (b j) (d j))
       (λ s. omega (arith, ap length (changes-same j s)))
@@ -63,11 +65,13 @@ module _ (f b d : ℕ → ℕ) where
   changes-most : (j : ℕ) → length (changes f b d j) ≤ j
   unfolding changes
   changes-most zero = omega arith
-  changes-most (suc j) = omega (arith, changes-most j, changes-step j, ap (λ (k : ℕ). length (changes f b d k)) (add-one j))
+  changes-most (suc j) =
+      omega (arith, changes-most j, changes-step j, ap (λ (k : ℕ). length (changes f b d k)) (add-one j))
 
   changes-further : (j k : ℕ) → length (changes f b d j) ≤ length (changes f b d (j + k))
   changes-further j zero = let e : j + 0 ≡ j = omega arith in rw e (omega arith)
-  changes-further j (suc k) = let e : j + suc k ≡ j + k + 1 = omega arith in rw e (omega (arith, changes-further j k, changes-step (j + k)))
+  changes-further j (suc k) =
+      let e : j + suc k ≡ j + k + 1 = omega arith in rw e (omega (arith, changes-further j k, changes-step (j + k)))
 
   pub changes-fewer : (j m : ℕ) → j ≤ m → length (changes f b d j) ≤ length (changes f b d m)
   changes-fewer j m h = let e : j + (m - j) ≡ m = omega arith in rw e at (changes-further j (m - j))
@@ -77,11 +81,14 @@ unfolding changesTo
 count-most rs relay ts j = changes-most (tabletNumber ts) (tabletRelay ts) (newRelay rs relay) j
 
 -- as many places as tablets are enough
-pub count-fits : (rs relay ts : List ℕ) (m places : ℕ) → m ≤ places → true ≡ leb (length (changesTo rs relay ts m)) places
-count-fits rs relay ts m places h = sym (le-leb (length (changesTo rs relay ts m)) places (omega (arith, count-most rs relay ts m)))
+pub count-fits : (rs relay ts : List ℕ) (m places : ℕ) → m ≤ places
+    → true ≡ leb (length (changesTo rs relay ts m)) places
+count-fits rs relay ts m places h =
+    sym (le-leb (length (changesTo rs relay ts m)) places (omega (arith, count-most rs relay ts m)))
 
 -- how many of the first tablets, with one more
-pub count-more : (rs relay ts : List ℕ) {c v : ℕ} (j : ℕ) → c ≡ length (changesTo rs relay ts j) → v ≡ cond (eqb (tabletRelay ts j) (newRelay rs relay j)) 0 1
+pub count-more : (rs relay ts : List ℕ) {c v : ℕ} (j : ℕ) → c ≡ length (changesTo rs relay ts j)
+    → v ≡ cond (eqb (tabletRelay ts j) (newRelay rs relay j)) 0 1
     → (c + v ≡ length (changesTo rs relay ts (j + 1))) × (c + v ≤ j + 1)
 unfolding changesTo
 count-more rs relay ts j e h =
@@ -100,11 +107,13 @@ unfolding moved
 moved-append old [] l = refl
 moved-append old (e ∷ k) l =
     split (has old (e .number) && not (eqb (besideOf old (e .number)) (e .beside)))
-    (λ s. rw (moved, s) (ap (λ (z : List Move). move (e .number) (besideOf old (e .number)) (e .beside) ∷ z) (moved-append old k l)))
+    (λ s. rw (moved, s) (ap (λ (z : List Move). move (e .number) (besideOf old (e .number)) (e .beside) ∷ z)
+    (moved-append old k l)))
     (λ s. rw (moved, s) (moved-append old k l))
 
 module _ (f b d : ℕ → ℕ) (m : ℕ) (a : Ascending f m) where
-  one-moved : (j : ℕ) → j < m → moved (places f b m) (entry (f j) (d j) ∷ []) ≡ cond (eqb (b j) (d j)) [] (moveOf f b d j ∷ [])
+  one-moved : (j : ℕ) → j < m → moved (places f b m) (entry (f j) (d j) ∷ []) ≡ cond (eqb (b j) (d j)) []
+      (moveOf f b d j ∷ [])
   unfolding moved
   one-moved j h =
       split (eqb (b j) (d j))

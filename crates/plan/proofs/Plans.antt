@@ -22,21 +22,26 @@ use Rattle.plan.specs.Changes.{newRelay, changesTo, ruledRelay, ruledCha
 use Rattle.plan.specs.Plan.{planRefusal, Planned}
 use Rattle.plan.proofs.Changes.{changes-ext}
 
-pub ruled-relay : {p : Positions} {rs ts relay : List ℕ} {n m : ℕ} → Refilled p rs ts n m relay → (j : ℕ) → j < m → newRelay rs relay j ≡ ruledRelay p rs ts n j
+pub ruled-relay : {p : Positions} {rs ts relay : List ℕ} {n m : ℕ} → Refilled p rs ts n m relay → (j : ℕ) → j < m
+    → newRelay rs relay j ≡ ruledRelay p rs ts n j
 unfolding newRelay ruledRelay
 ruled-relay {rs = rs} f j h = ap (relayNumber rs) (f .is j h)
 
-pub ruled-changes : {p : Positions} {rs ts relay : List ℕ} {n m : ℕ} → Refilled p rs ts n m relay → changesTo rs relay ts m ≡ ruledChanges p rs ts n m
+pub ruled-changes : {p : Positions} {rs ts relay : List ℕ} {n m : ℕ} → Refilled p rs ts n m relay
+    → changesTo rs relay ts m ≡ ruledChanges p rs ts n m
 unfolding changesTo ruledChanges
 ruled-changes {p} {rs} {ts} {relay} {n} {m} f =
-    changes-ext (tabletNumber ts) (tabletRelay ts) (newRelay rs relay) (ruledRelay p rs ts n) m (λ j h. ruled-relay f j h)
+    changes-ext (tabletNumber ts) (tabletRelay ts) (newRelay rs relay) (ruledRelay p rs ts n) m
+    (λ j h. ruled-relay f j h)
 
 module _ (p : Positions) (rs ts : List ℕ) (n m places : ℕ) (r : Plan) where
   pub limits-planned : r .refusal ≡ LimitsTooSmall → total (relaysIn rs n) < m → Planned p rs ts n m places r
   unfolding planRefusal firstBar isDone
-  limits-planned e h = record { refusal = e ∙ rw (lt-ltb _ _ h); settled = λ d. absurd (true-false (sym d ∙ ap isDone e)) }
+  limits-planned e h =
+      record { refusal = e ∙ rw (lt-ltb _ _ h); settled = λ d. absurd (true-false (sym d ∙ ap isDone e)) }
 
-  module _ (enough : m ≤ total (relaysIn rs n)) {relay : List ℕ} (f : Refilled p rs ts n m relay) {b : Bool} (eb : b ≡ leb (length (changesTo rs relay ts m)) places) where
+  module _ (enough : m ≤ total (relaysIn rs n)) {relay : List ℕ} (f : Refilled p rs ts n m relay) {b : Bool}
+      (eb : b ≡ leb (length (changesTo rs relay ts m)) places) where
     same-count : length (ruledChanges p rs ts n m) ≡ length (changesTo rs relay ts m)
     same-count = sym (ap length (ruled-changes f))
 

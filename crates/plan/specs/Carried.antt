@@ -23,7 +23,8 @@ pub record MovesOne (rs ts ms : List ℕ) (i j c : ℕ) : Type 0 where
 -- the tablet at place j has the relay at place i; where that is another than before it is listed
 pub record MovedOne (rs ts ts′ ms ms′ : List ℕ) (i j c c′ : ℕ) : Type 0 where
   pub tablets : SetBeside tabletNumber tabletRelay ts ts′ j (relayNumber rs i)
-  pub list : ms′ ≡ cond (eqb (tabletRelay ts j) (relayNumber rs i)) ms (setMove ms c (tabletNumber ts j) (tabletRelay ts j) (relayNumber rs i))
+  pub list : ms′ ≡ cond (eqb (tabletRelay ts j) (relayNumber rs i)) ms
+      (setMove ms c (tabletNumber ts j) (tabletRelay ts j) (relayNumber rs i))
   pub count : c′ ≡ cond (eqb (tabletRelay ts j) (relayNumber rs i)) c (c + 1)
 
 pub record Carries (rs relay ts ms : List ℕ) (m : ℕ) : Type 0 where

@@ -46,8 +46,10 @@ fn one_if_moves(
     tablets: &[u32],
     j: usize,
 ) -> usize
-    requires { ⌜ (j < mostTablets) × (j < tabletPlaces (now tablets)) × (getD (now relay) j 0 < relayPlaces (now relays)) ⌝ }
-    ensures { λ r. ⌜ r ≡ cond (eqb (tabletRelay (now (tablets .entry)) j) (newRelay (now (relays .entry)) (now (relay .entry)) j)) 0 1 ⌝ }
+    requires { ⌜ (j < mostTablets) × (j < tabletPlaces (now tablets))
+        × (getD (now relay) j 0 < relayPlaces (now relays)) ⌝ }
+    ensures { λ r. ⌜ r ≡ cond (eqb (tabletRelay (now (tablets .entry)) j)
+        (newRelay (now (relays .entry)) (now (relay .entry)) j)) 0 1 ⌝ }
 {
     let i = ring::from_u8(relay[j]);
     let new = tables::relay_number(relays, i);
@@ -77,7 +79,8 @@ fn moves_fit(
     places: usize,
 ) -> bool
     requires { ⌜ Assigned (now relays) (now relay) (now tablets) m ⌝ }
-    ensures { λ b. ⌜ b ≡ leb (length (changesTo (now (relays .entry)) (now (relay .entry)) (now (tablets .entry)) m)) places ⌝ }
+    ensures { λ b. ⌜ b ≡ leb (length (changesTo (now (relays .entry)) (now (relay .entry)) (now (tablets .entry)) m))
+        places ⌝ }
 {
     if m <= places {
         return true;
@@ -108,7 +111,8 @@ pub fn work_out<'a>(
     places: usize,
 ) -> Plan
     requires { ⌜ Plans (now relays) (now tablets) n m (now keys) (now home) ⌝ }
-    ensures { λ r. ⌜ ((p : Positions) → Homes p (now (relays .entry)) (now (tablets .entry)) n m (now (keys .entry)) (now (home .entry)) → Planned p (now (relays .entry)) (now (tablets .entry)) n m places r) ⌝ }
+    ensures { λ r. ⌜ ((p : Positions) → Homes p (now (relays .entry)) (now (tablets .entry)) n m (now (keys .entry))
+        (now (home .entry)) → Planned p (now (relays .entry)) (now (tablets .entry)) n m places r) ⌝ }
 {
     if limit_sum(relays, n) < m {
         return no_plan(rule::Refusal::LimitsTooSmall);
@@ -136,7 +140,8 @@ fn move_one(
     c: usize,
 ) -> usize
     requires { ⌜ MovesOne (now relays) (now tablets) (now moves) i j c ⌝ }
-    ensures { λ r. ⌜ MovedOne (now (relays .entry)) (now (tablets .entry)) (now (tablets .exit)) (now (moves .entry)) (now (moves .exit)) i j c r ⌝ }
+    ensures { λ r. ⌜ MovedOne (now (relays .entry)) (now (tablets .entry)) (now (tablets .exit)) (now (moves .entry))
+        (now (moves .exit)) i j c r ⌝ }
 {
     let old = tables::tablet_relay(tablets, j);
     let new = tables::relay_number(relays, i);
@@ -158,7 +163,8 @@ pub fn carry_out(
     m: usize,
 ) -> usize
     requires { ⌜ Carries (now relays) (now relay) (now tablets) (now moves) m ⌝ }
-    ensures { λ c. ⌜ Carried (now (relays .entry)) (now (relay .entry)) (now (tablets .entry)) (now (tablets .exit)) (now (moves .entry)) (now (moves .exit)) m c ⌝ }
+    ensures { λ c. ⌜ Carried (now (relays .entry)) (now (relay .entry)) (now (tablets .entry)) (now (tablets .exit))
+        (now (moves .entry)) (now (moves .exit)) m c ⌝ }
 {
     let mut c: usize = 0;
     let mut j: usize = 0;

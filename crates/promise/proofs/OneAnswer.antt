@@ -25,22 +25,26 @@ module _ {R L : Type 0} where
     unfolding settled
     settled-refused d = rw (d, settled)
 
-    pub done-answers : isDone why ≡ true → {r : R} {l : L} → Answers done r l → Answers (settled why reply lent done) r l
+    pub done-answers : isDone why ≡ true → {r : R} {l : L} → Answers done r l
+        → Answers (settled why reply lent done) r l
     done-answers d a = rw (settled-done d) a
 
     pub refused-answers : isDone why ≡ false → {r : R} → r ≡ reply → Answers (settled why reply lent done) r lent
     refused-answers d e = rw (settled-refused d) (record { reply = e; lent = refl })
 
     -- where a done reply says that it is done
-    pub refused-stays : (refusalOf : R → Refusal) → (isDone why ≡ true → isDone (refusalOf (done .reply)) ≡ true) → {r : R} {l : L}
+    pub refused-stays : (refusalOf : R → Refusal) → (isDone why ≡ true → isDone (refusalOf (done .reply)) ≡ true)
+        → {r : R} {l : L}
         → Answers (settled why reply lent done) r l → isDone (refusalOf r) ≡ false → (r ≡ reply) × (l ≡ lent)
     refused-stays refusalOf says {r} a f =
         split (isDone why)
-        (λ d. absurd (true-false (sym (says d) ∙ ap (λ (x : After R L). isDone (refusalOf (x .reply))) (sym (settled-done d))
+        (λ d. absurd (true-false (sym (says d) ∙ ap (λ (x : After R L). isDone (refusalOf (x .reply)))
+        (sym (settled-done d))
         ∙ ap (λ (x : R). isDone (refusalOf x)) (sym (a .reply)) ∙ f)))
         (λ d. answers-one a (refused-answers d refl))
 
-  pub tally-answers : {T : Type 0} (counted : R → T) {a : After R L} {r : R} {l : L} {t : T} → Answers a r l → t ≡ counted r
+  pub tally-answers : {T : Type 0} (counted : R → T) {a : After R L} {r : R} {l : L} {t : T} → Answers a r l
+      → t ≡ counted r
       → Answers (withTally counted a) r (l, t)
   unfolding withTally
   tally-answers counted x e = record { reply = x .reply; lent = λ i. (x .lent i, (e ∙ ap counted (x .reply)) i) }

@@ -25,7 +25,8 @@ module _ (p : Positions) (m : Lent) (g : Ring) (c : Call) where
 
   pub outcome-count : o .reply .moves ≡ length (o .moves)
   unfolding accepted declined
-  outcome-count = split (isDone (refusal p m g c)) (λ d. rw (outcome-accepted p m g c d)) (λ d. rw (outcome-declined p m g c d))
+  outcome-count =
+      split (isDone (refusal p m g c)) (λ d. rw (outcome-accepted p m g c d)) (λ d. rw (outcome-declined p m g c d))
 
   pub outcome-fits : length (o .moves) ≤ m .movePlaces
   unfolding accepted declined

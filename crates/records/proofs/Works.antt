@@ -22,10 +22,12 @@ use Rattle.records.proofs.Outcomes.{outcome-count, outcome-fits, left-r
 use Rattle.records.proofs.Room.{outcome-room}
 
 -- the moves stand first, whatever comes behind the list
-listed-first : (ms : List Move) (list rest : List ℕ) → 3 * length ms ≤ length list → take (3 * length ms) (listed ms list ++ rest) ≡ flatMoves ms
+listed-first : (ms : List Move) (list rest : List ℕ) → 3 * length ms ≤ length list
+    → take (3 * length ms) (listed ms list ++ rest) ≡ flatMoves ms
 unfolding listed
 listed-first ms list rest h =
-    take-append-le (3 * length ms) (flatMoves ms ++ drop (3 * length ms) list) rest (omega (arith, length-append (flatMoves ms) (drop (3 * length ms) list), length-moves ms))
+    take-append-le (3 * length ms) (flatMoves ms ++ drop (3 * length ms) list) rest
+    (omega (arith, length-append (flatMoves ms) (drop (3 * length ms) list), length-moves ms))
     ∙ take-at (flatMoves ms) (drop (3 * length ms) list) (3 * length ms) (length-moves ms)
 
 -- the part of the numbers that is lent
@@ -44,23 +46,34 @@ module _ (s : ℕ) (rs ts : List ℕ) (room : ℕ) (c : Call) where
       let k : length ms / 3 ≡ min room mostTablets = omega (arith, h) in
       ap (λ (n : ℕ). outcomeWith s rs ts n c) k ∙ outcome-room s rs ts room c
 
-  pub works : (ms rest : List ℕ) {r : Reply} {ms′ numbers rs′ ts′ : List ℕ} → Answers (after s rs ts ms c) r (lists rs′ ts′ ms′)
+  pub works : (ms rest : List ℕ) {r : Reply} {ms′ numbers rs′ ts′ : List ℕ}
+      → Answers (after s rs ts ms c) r (lists rs′ ts′ ms′)
       → length ms ≡ 3 * min room mostTablets → numbers ≡ ms′ ++ rest → Works s rs ts room c r numbers rs′ ts′
   unfolding after tablesAfter outcomeOf outcomeWith lentOf
   works ms rest {r = r} a h e =
       let same : outcomeOf s rs ts ms c ≡ o = outcome-scratch ms h in
-      let reply : r ≡ o .reply = a .reply ∙ left-reply listed rs ts ms (outcomeOf s rs ts ms c) ∙ ap (λ (x : Outcome). x .reply) same in
-      let count : r .moves ≡ length (o .moves) = ap (λ (x : Reply). x .moves) reply ∙ outcome-count (positions s) (lentWith s rs ts room) (ringOf rs ts) c in
-      let few : length (o .moves) ≤ length ms / 3 = rw (sym same) (outcome-fits (positions s) (lentOf s rs ts ms) (ringOf rs ts) c) in
-      let listing : left listed rs ts ms (outcomeOf s rs ts ms c) .lent .moves ≡ listed (outcomeOf s rs ts ms c .moves) ms =
+      let reply : r ≡ o .reply = a .reply ∙ left-reply listed rs ts ms (outcomeOf s rs ts ms c)
+      ∙ ap (λ (x : Outcome). x .reply) same in
+      let count : r .moves ≡ length (o .moves) = ap (λ (x : Reply). x .moves) reply
+      ∙ outcome-count (positions s) (lentWith s rs ts room) (ringOf rs ts) c in
+      let few : length (o .moves) ≤ length ms / 3 = rw (sym same)
+      (outcome-fits (positions s) (lentOf s rs ts ms) (ringOf rs ts) c) in
+      let listing : left listed rs ts ms (outcomeOf s rs ts ms c) .lent .moves
+      ≡ listed (outcomeOf s rs ts ms c .moves) ms =
       left-moves (positions s) (lentOf s rs ts ms) (ringOf rs ts) c listed rs ts ms (listed-none ms) in
       record {
         reply = reply;
-        relays = ap (λ (l : Lists ℕ). l .relays) (a .lent) ∙ left-relays listed rs ts ms (outcomeOf s rs ts ms c) recorded [] ∙ ap (λ (x : Outcome). tablesAfter rs ts x .relays) same;
-        tablets = ap (λ (l : Lists ℕ). l .tablets) (a .lent) ∙ left-tablets listed rs ts ms (outcomeOf s rs ts ms c) recorded [] ∙ ap (λ (x : Outcome). tablesAfter rs ts x .tablets) same;
+        relays = ap (λ (l : Lists ℕ). l .relays) (a .lent)
+            ∙ left-relays listed rs ts ms (outcomeOf s rs ts ms c) recorded []
+            ∙ ap (λ (x : Outcome). tablesAfter rs ts x .relays) same;
+        tablets = ap (λ (l : Lists ℕ). l .tablets) (a .lent)
+            ∙ left-tablets listed rs ts ms (outcomeOf s rs ts ms c) recorded []
+            ∙ ap (λ (x : Outcome). tablesAfter rs ts x .tablets) same;
         count = count;
         moves =
-            ap₂ (λ (k : ℕ) (l : List ℕ). take (3 * k) l) count (e ∙ ap (λ (l : List ℕ). l ++ rest) (ap (λ (x : Lists ℕ). x .moves) (a .lent) ∙ listing ∙ ap (λ (x : Outcome). listed (x .moves) ms) same))
+            ap₂ (λ (k : ℕ) (l : List ℕ). take (3 * k) l) count
+            (e ∙ ap (λ (l : List ℕ). l ++ rest) (ap (λ (x : Lists ℕ). x .moves) (a .lent) ∙ listing
+            ∙ ap (λ (x : Outcome). listed (x .moves) ms) same))
             ∙ listed-first (o .moves) ms rest (omega (arith, few));
         fits = omega (arith, count, few, h);
         few = omega (arith, count, few, h);

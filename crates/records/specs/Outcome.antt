@@ -13,7 +13,13 @@ use Rattle.call_start.specs.Promise.{Lists, left}
 -- the tables, and a move list with so many places
 unfoldable pub lentWith : ℕ → List ℕ → List ℕ → ℕ → Lent
 lentWith scheme rs ts room =
-    record { known = known scheme; fit = fitTables rs ts; relayPlaces = relayPlaces rs; tabletPlaces = tabletPlaces ts; movePlaces = room }
+    record {
+      known = known scheme;
+      fit = fitTables rs ts;
+      relayPlaces = relayPlaces rs;
+      tabletPlaces = tabletPlaces ts;
+      movePlaces = room;
+    }
 
 -- the outcome that document 01 gives for what is lent
 unfoldable pub outcomeWith : ℕ → List ℕ → List ℕ → ℕ → Call → Outcome

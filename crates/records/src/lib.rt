@@ -47,7 +47,8 @@ pub fn work_on(
     c: rule::Call,
 ) -> rule::Reply
     requires { ⌜ length (now numbers) ≡ 3 * mostTablets ⌝ }
-    ensures { λ r. ⌜ Works scheme (now (relays .entry)) (now (tablets .entry)) room c r (now (numbers .exit)) (now (relays .exit)) (now (tablets .exit)) ⌝ }
+    ensures { λ r. ⌜ Works scheme (now (relays .entry)) (now (tablets .entry)) room c r (now (numbers .exit))
+        (now (relays .exit)) (now (tablets .exit)) ⌝ }
 {
     let mut none = [0u32; 1];
     let places = useful(room);

@@ -32,8 +32,10 @@ pub record Filling (p : Positions) (rs ts : List ℕ) (n j : ℕ) (keys room nex
   pub row : Row keys room n 0 next
   pub refilled : Refilled p rs ts n j relay
 
-pub filling-none : {p : Positions} {rs ts : List ℕ} {n m : ℕ} {keys home room next relay : List ℕ} → Homes p rs ts n m keys home
-    → room ≡ relayLimits rs n → Row keys room n 0 next → length relay ≡ mostTablets → Filling p rs ts n 0 keys room next relay
+pub filling-none : {p : Positions} {rs ts : List ℕ} {n m : ℕ} {keys home room next relay : List ℕ}
+    → Homes p rs ts n m keys home
+    → room ≡ relayLimits rs n → Row keys room n 0 next → length relay ≡ mostTablets
+    → Filling p rs ts n 0 keys room next relay
 unfolding roomAfter
 filling-none o left row size = record {
   ordered = o .ordered;
@@ -42,17 +44,24 @@ filling-none o left row size = record {
   refilled = record { size = size; below = λ t l. absurd (not-suc-le-zero l); is = λ t l. absurd (not-suc-le-zero l) };
 }
 
-pub filling-end : {p : Positions} {rs ts : List ℕ} {n j m : ℕ} {keys room next relay : List ℕ} → m ≤ j → Filling p rs ts n j keys room next relay
+pub filling-end : {p : Positions} {rs ts : List ℕ} {n j m : ℕ} {keys room next relay : List ℕ} → m ≤ j
+    → Filling p rs ts n j keys room next relay
     → Refilled p rs ts n m relay
 filling-end h f =
-    record { size = f .refilled .size; below = λ t l. f .refilled .below t (omega arith); is = λ t l. f .refilled .is t (omega arith) }
+    record {
+      size = f .refilled .size;
+      below = λ t l. f .refilled .below t (omega arith);
+      is = λ t l. f .refilled .is t
+          (omega arith);
+    }
 
 -- however the positions come, the first j tablets are placed by the rule
 pub record Fills (rs : List ℕ) (n m j : ℕ) (keys home room next relay : List ℕ) : Type 0 where
   pub by : (p : Positions) (ts : List ℕ) → Homes p rs ts n m keys home → Filling p rs ts n j keys room next relay
 
 -- tablet j's walk goes from slot h, and the row leads from there to slot k
-pub record Turn (p : Positions) (rs ts : List ℕ) (n m j : ℕ) (keys home room next relay : List ℕ) (h k : ℕ) : Type 0 where
+pub record Turn (p : Positions) (rs ts : List ℕ) (n m j : ℕ) (keys home room next relay : List ℕ)
+    (h k : ℕ) : Type 0 where
   pub asked : Refills rs n m keys home
   pub more : j < m
   pub homes : Homes p rs ts n m keys home
@@ -82,7 +91,8 @@ module _ {p : Positions} {rs ts : List ℕ} {n m j : ℕ} {keys home room next r
       go : Enters n (start .slot) (getD home j 0) → Leads keys room n (start .slot) k
       go (itself e) =
           let z : start .slot ≡ h = omega (arith, t .from) in
-          rw (z, t .led-to) (leads-at h (t .asked .relays .few) (omega (arith, start .home .begins .within)) (t .filling .row))
+          rw (z, t .led-to) (leads-at h (t .asked .relays .few) (omega (arith, start .home .begins .within))
+          (t .filling .row))
       go (round e o) =
           let z : h ≡ 0 = omega (arith, t .from) in
           rw (e, t .led-to, z) (leads-past (t .filling .row .leads 0 (omega arith) (omega arith) (omega arith)))
@@ -94,7 +104,8 @@ module _ {p : Positions} {rs ts : List ℕ} {n m j : ℕ} {keys home room next r
   opens : 0 < slotRoom keys room k
   unfolding slotRoom
   opens =
-      let s : Slot keys n (relayFor p rs ts n j) = t .filling .ordered .holds .every (relayFor p rs ts n j) (first .below) in
+      let s : Slot keys n (relayFor p rs ts n j) = t .filling .ordered .holds .every (relayFor p rs ts n j)
+      (first .below) in
       leads .opens (s .slot) (s .below) (rw (s .is, t .filling .left) (first .hasRoom))
 
   some-relay : 0 < n
@@ -113,12 +124,14 @@ module _ {p : Positions} {rs ts : List ℕ} {n m j : ℕ} {keys home room next r
   turn-relay : slotRelay keys k ≡ relayFor p rs ts n j
   turn-relay =
       for-tablet p rs ts n j refl (t .filling .left) refl refl
-      (led (t .filling .ordered) (t .asked .relays .few) (t .homes .small j (t .more)) (start .home) leads some-relay opens)
+      (led (t .filling .ordered) (t .asked .relays .few) (t .homes .small j (t .more))
+      (start .home) leads some-relay opens)
 
   pub turn-below : j < mostTablets
   turn-below = omega (arith, t .more, t .asked .few)
 
-  pub filling-more : {room′ next′ : List ℕ} {i : ℕ} → i ≡ slotRelay keys k → room′ ≡ roomLess room (slotRelay keys k) → Row keys room′ n 0 next′
+  pub filling-more : {room′ next′ : List ℕ} {i : ℕ} → i ≡ slotRelay keys k → room′ ≡ roomLess room (slotRelay keys k)
+      → Row keys room′ n 0 next′
       → Filling p rs ts n (j + 1) keys room′ next′ (set relay j i)
   filling-more e less row = record {
     ordered = t .filling .ordered;
@@ -126,9 +139,11 @@ module _ {p : Positions} {rs ts : List ℕ} {n m j : ℕ} {keys home room next r
     row = row;
     refilled = record {
       size = simp length-set (o .size);
-      below = λ x c. stored (λ _ y. y < n) relay j (omega (arith, o .size, turn-below)) (omega (arith, e, turn-relay, first .below)) x
+      below = λ x c. stored (λ _ y. y < n) relay j (omega (arith, o .size, turn-below))
+          (omega (arith, e, turn-relay, first .below)) x
           (λ d. o .below x (omega arith));
-      is = λ x c. stored (λ x y. y ≡ relayFor p rs ts n x) relay j (omega (arith, o .size, turn-below)) (e ∙ turn-relay) x
+      is = λ x c. stored (λ x y. y ≡ relayFor p rs ts n x) relay j (omega (arith, o .size, turn-below))
+          (e ∙ turn-relay) x
           (λ d. o .is x (omega arith));
     };
   }

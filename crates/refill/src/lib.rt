@@ -14,7 +14,8 @@ pub fn refill(
     m: usize,
 ) -> [u8; ring::MOST_TABLETS]
     requires { ⌜ Refills (now relays) n m (now keys) (now home) ⌝ }
-    ensures { λ r. ⌜ ((p : Positions) (ts : List ℕ) → Homes p (now (relays .entry)) ts n m (now (keys .entry)) (now (home .entry))
+    ensures { λ r. ⌜ ((p : Positions) (ts : List ℕ) → Homes p (now (relays .entry)) ts n m (now (keys .entry))
+        (now (home .entry))
         → Refilled p (now (relays .entry)) ts n m r) ⌝ }
 {
     let mut room = placing::relay_limits(relays, n);

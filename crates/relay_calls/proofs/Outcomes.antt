@@ -56,7 +56,8 @@ use Rattle.relay_calls.proofs.Replaced.{filled-replaced}
 
 -- ---- a refusal from 1 to 7
 
-pub edit-refused : {s : ℕ} {rs ts : List ℕ} (ms : List ℕ) {c : Call} {x : ℕ} {e : Edit} {d : Bool} {reply : Reply} → Edits s rs ts c x e → d ≡ isDone (e .refusal) → not d ≡ true
+pub edit-refused : {s : ℕ} {rs ts : List ℕ} (ms : List ℕ) {c : Call} {x : ℕ} {e : Edit} {d : Bool} {reply : Reply}
+    → Edits s rs ts c x e → d ≡ isDone (e .refusal) → not d ≡ true
     → reply ≡ bareReply (e .refusal) → Answers (after s rs ts ms c) reply (lists rs ts ms)
 edit-refused {s} {rs} {ts} ms {c} {e = e} {reply = reply} o ed h er =
     let n : isDone (e .refusal) ≡ false = sym ed ∙ not-true _ h in
@@ -64,11 +65,13 @@ edit-refused {s} {rs} {ts} ms {c} {e = e} {reply = reply} o ed h er =
 
 -- ---- past them
 
-pub edit-passed : {s : ℕ} {rs ts : List ℕ} {c : Call} {x : ℕ} {e : Edit} {d : Bool} → Edits s rs ts c x e → d ≡ isDone (e .refusal) → not d ≡ false
+pub edit-passed : {s : ℕ} {rs ts : List ℕ} {c : Call} {x : ℕ} {e : Edit} {d : Bool} → Edits s rs ts c x e
+    → d ≡ isDone (e .refusal) → not d ≡ false
     → EditReady s rs ts c (e .n) (e .m) (e .relays) (e .around)
 edit-passed {d = d} o ed h = o .passed-on (sym ed ∙ not-false d h)
 
-module _ {s : ℕ} {rs ts : List ℕ} {c : Call} {n m : ℕ} {own : List ℕ} {around : Around} (o : EditReady s rs ts c n m own around) where
+module _ {s : ℕ} {rs ts : List ℕ} {c : Call} {n m : ℕ} {own : List ℕ} {around : Around}
+    (o : EditReady s rs ts c n m own around) where
   abbrev p : Positions
   p = positions s
 
@@ -92,7 +95,11 @@ module _ {s : ℕ} {rs ts : List ℕ} {c : Call} {n m : ℕ} {own : List ℕ} {a
 
   pub edit-plans : Plans own ts n m (around .keys) (around .home)
   edit-plans = record {
-    limited = record { relays = fits; limits = places-limits (relayNumber own) (relayLimit own) n (rw (o .written .relays) (edited-right .limits)) };
+    limited = record {
+      relays = fits;
+      limits = places-limits (relayNumber own) (relayLimit own) n
+          (rw (o .written .relays) (edited-right .limits));
+    };
     rising = ascends;
     tablets = rises .tabletsFit;
     positions = p;
@@ -134,13 +141,15 @@ module _ {s : ℕ} {rs ts : List ℕ} {c : Call} {n m : ℕ} {own : List ℕ} {a
       unfolding ruledRelay
       after-tablets =
           after-fill p g c edited-right enough-for
-          ∙ ap₂ (λ (k : List Entry) (l : List Entry). fill (key p) k (numbers l)) (sym (o .written .relays)) same-tablets
+          ∙ ap₂ (λ (k : List Entry) (l : List Entry). fill (key p) k (numbers l))
+          (sym (o .written .relays)) same-tablets
           ∙ sym (run-fill p own ts n (fits .few) ascends m enough)
 
       ruled-moves : moves p g c ≡ ruledChanges p own ts n m
       unfolding moves ruledChanges
       ruled-moves =
-          ap₂ moved found-tablets after-tablets ∙ moved-changes (tabletNumber ts) (tabletRelay ts) (ruledRelay p own ts n) m (rises .tablets)
+          ap₂ moved found-tablets after-tablets ∙ moved-changes (tabletNumber ts) (tabletRelay ts)
+          (ruledRelay p own ts n) m (rises .tablets)
 
     -- ---- the refusals 8 and 9
 
@@ -153,25 +162,30 @@ module _ {s : ℕ} {rs ts : List ℕ} {c : Call} {n m : ℕ} {own : List ℕ} {a
       plan-why d =
           split (ltb (total (relaysIn own n)) m)
           (λ t.
-          limits-refused s rs ts ms c (o .start) (o .numbers ms) (omega (arith, ltb-true (total (relaysIn own n)) m t, same-length, same-total))
+          limits-refused s rs ts ms c (o .start) (o .numbers ms)
+          (omega (arith, ltb-true (total (relaysIn own n)) m t, same-length, same-total))
           ∙ sym (planned .refusal ∙ rw t))
           (λ t.
           let e : m ≤ total (relaysIn own n) = ltb-false (total (relaysIn own n)) m t in
           let k : ℕ = length (ruledChanges p own ts n m) in
           split (ltb (length ms / 3) k)
           (λ u.
-          list-refused s rs ts ms c (o .start) (o .numbers ms) (enough-for e) (rw (ruled-moves e) (ltb-true (length ms / 3) k u))
+          list-refused s rs ts ms c (o .start) (o .numbers ms) (enough-for e)
+          (rw (ruled-moves e) (ltb-true (length ms / 3) k u))
           ∙ sym (planned .refusal ∙ rw (t, u)))
-          (λ u. let z : r .refusal ≡ Done = planned .refusal ∙ rw (t, u) in absurd (true-false (sym (ap isDone z) ∙ d))))
+          (λ u. let z : r .refusal ≡ Done = planned .refusal
+          ∙ rw (t, u) in absurd (true-false (sym (ap isDone z) ∙ d))))
 
-      pub plan-refused : {d : Bool} {reply : Reply} → d ≡ isDone (r .refusal) → not d ≡ true → reply ≡ bareReply (r .refusal) → Answers (after s rs ts ms c) reply (lists rs ts ms)
+      pub plan-refused : {d : Bool} {reply : Reply} → d ≡ isDone (r .refusal) → not d ≡ true
+          → reply ≡ bareReply (r .refusal) → Answers (after s rs ts ms c) reply (lists rs ts ms)
       plan-refused {reply = reply} ed h er =
           let z : isDone (r .refusal) ≡ false = sym ed ∙ not-true _ h in
           refused-answers s rs ts ms c (r .refusal) (plan-why z) z reply er
 
     -- ---- the plan carried out
 
-    module _ {r : Plan} (worked : Worked (length ms / 3) r) {d : Bool} (ed : d ≡ isDone (r .refusal)) (h : not d ≡ false) where
+    module _ {r : Plan} (worked : Worked (length ms / 3) r) {d : Bool} (ed : d ≡ isDone (r .refusal))
+        (h : not d ≡ false) where
       abbrev relay : List ℕ
       relay = r .relay
 
@@ -180,7 +194,11 @@ module _ {s : ℕ} {rs ts : List ℕ} {c : Call} {n m : ℕ} {own : List ℕ} {a
 
       pub plan-carries : Carries own relay ts ms m
       plan-carries = record {
-        seated = record { tablets = rises .tabletsFit; relays = λ j h. omega (arith, z .refilled .below j h, fits .there) };
+        seated = record {
+          tablets = rises .tabletsFit;
+          relays = λ j h. omega
+              (arith, z .refilled .below j h, fits .there);
+        };
         room = omega (arith, z .fits);
       }
 
@@ -193,28 +211,38 @@ module _ {s : ℕ} {rs ts : List ℕ} {c : Call} {n m : ℕ} {own : List ℕ} {a
 
       passes : why ≡ Done
       unfolding lentOf
-      passes = all-passed s rs ts ms c (o .start) (o .numbers ms) (enough-for (z .enough)) (omega (arith, ap length same-moves, z .fits))
+      passes =
+          all-passed s rs ts ms c (o .start) (o .numbers ms) (enough-for (z .enough))
+          (omega (arith, ap length same-moves, z .fits))
 
-      the-reply : {k : ℕ} → k ≡ length (changesTo own relay ts m) → _≡_ {A = Reply} (replied Done x 0 k) (accepted p g c .reply)
+      the-reply : {k : ℕ} → k ≡ length (changesTo own relay ts m) → _≡_ {A = Reply} (replied Done x 0 k)
+          (accepted p g c .reply)
       unfolding accepted
-      the-reply ek = λ i. replied Done (sym (a .relay p g) i) (sym (a .passed p g) i) ((ek ∙ ap length (sym same-moves)) i)
+      the-reply ek =
+          λ i. replied Done (sym (a .relay p g) i) (sym (a .passed p g) i) ((ek ∙ ap length (sym same-moves)) i)
 
       the-relays : {rs′ : List ℕ} → Replaced own rs rs′ → rs′ ≡ relayTable (length rs) (Calls.after p g c)
       unfolding relayTable Calls.after relayPlaces
       the-relays w =
-          let l : length (edited g c .relays) ≡ n = ap length (sym (o .written .relays)) ∙ length-places (relayNumber own) (relayLimit own) n in
-          filled-replaced ownNumbers (flat (edited g c .relays)) w (o .written .table) (omega (arith, length-flat (edited g c .relays), o .written .fits))
+          let l : length (edited g c .relays) ≡ n = ap length (sym (o .written .relays))
+          ∙ length-places (relayNumber own) (relayLimit own) n in
+          filled-replaced ownNumbers (flat (edited g c .relays)) w (o .written .table)
+          (omega (arith, length-flat (edited g c .relays), o .written .fits))
 
-      the-tablets : {ts′ ms′ : List ℕ} {k : ℕ} → Carried own relay ts ts′ ms ms′ m k → ts′ ≡ tabletTable (length ts) (Calls.after p g c)
+      the-tablets : {ts′ ms′ : List ℕ} {k : ℕ} → Carried own relay ts ts′ ms ms′ m k
+          → ts′ ≡ tabletTable (length ts) (Calls.after p g c)
       unfolding tabletTable
       the-tablets w =
           tablets-table (w .tablets) (tablets-whole (o .start)) (rises .tabletsFit .there)
           (tablets-zeros (o .start))
           ∙ ap (λ (l : List Entry). filled (length ts) (flat l))
-          (places-ext (tabletNumber ts) (newRelay own relay) (tabletNumber ts) (ruledRelay p own ts n) m (λ j h. refl) (λ j h. ruled-relay (z .refilled) j h)
+          (places-ext (tabletNumber ts) (newRelay own relay) (tabletNumber ts) (ruledRelay p own ts n) m (λ j h. refl)
+          (λ j h. ruled-relay (z .refilled) j h)
           ∙ sym (after-tablets (z .enough)))
 
-      pub plan-answers : {rs′ ts′ ms′ : List ℕ} {k : ℕ} {reply : Reply} → Carried own relay ts ts′ ms ms′ m k → Replaced own rs rs′
+      pub plan-answers : {rs′ ts′ ms′ : List ℕ} {k : ℕ} {reply : Reply} → Carried own relay ts ts′ ms ms′ m k
+          → Replaced own rs rs′
           → reply ≡ replied Done x 0 k → Answers (after s rs ts ms c) reply (lists rs′ ts′ ms′)
       plan-answers {rs′} {ts′} {ms′} {reply = reply} w v er =
-          accepted-answers s rs ts ms c passes reply rs′ ts′ ms′ (er ∙ the-reply (w .count)) (the-relays v) (the-tablets w) (w .list ∙ ap (λ (l : List Move). listed l ms) (sym same-moves))
+          accepted-answers s rs ts ms c passes reply rs′ ts′ ms′ (er ∙ the-reply (w .count)) (the-relays v)
+          (the-tablets w) (w .list ∙ ap (λ (l : List Move). listed l ms) (sym same-moves))

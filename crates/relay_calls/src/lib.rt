@@ -30,7 +30,8 @@ fn finish(
     e: relay_edit::Edit,
 ) -> rule::Reply
     requires { ⌜ Comes (now relays) (now tablets) (r .0) e ⌝ }
-    ensures { λ reply. ⌜ ((s : ℕ) (c : Call) → Edits s (now (relays .entry)) (now (tablets .entry)) c (r .0) e → Answers (after s (now (relays .entry)) (now (tablets .entry)) (now (moves .entry)) c)
+    ensures { λ reply. ⌜ ((s : ℕ) (c : Call) → Edits s (now (relays .entry)) (now (tablets .entry)) c (r .0) e
+        → Answers (after s (now (relays .entry)) (now (tablets .entry)) (now (moves .entry)) c)
         reply (lists (now (relays .exit)) (now (tablets .exit)) (now (moves .exit)))) ⌝ }
 {
     let first = e.refusal;
@@ -73,7 +74,8 @@ pub fn add(
     r: ring::RelayNumber,
     limit: u32,
 ) -> rule::Reply
-    ensures { λ reply. ⌜ Answers (after scheme (now (relays .entry)) (now (tablets .entry)) (now (moves .entry)) (Add r limit))
+    ensures { λ reply. ⌜ Answers (after scheme (now (relays .entry)) (now (tablets .entry)) (now (moves .entry))
+        (Add r limit))
         reply (lists (now (relays .exit)) (now (tablets .exit)) (now (moves .exit))) ⌝ }
 {
     let e = relay_edit::edit_add(scheme, relays, tablets, r, limit);
@@ -87,7 +89,8 @@ pub fn remove(
     moves: &mut [u32],
     r: ring::RelayNumber,
 ) -> rule::Reply
-    ensures { λ reply. ⌜ Answers (after scheme (now (relays .entry)) (now (tablets .entry)) (now (moves .entry)) (Remove r))
+    ensures { λ reply. ⌜ Answers (after scheme (now (relays .entry)) (now (tablets .entry)) (now (moves .entry))
+        (Remove r))
         reply (lists (now (relays .exit)) (now (tablets .exit)) (now (moves .exit))) ⌝ }
 {
     let e = relay_edit::edit_remove(scheme, relays, tablets, r);
@@ -102,7 +105,8 @@ pub fn set(
     r: ring::RelayNumber,
     limit: u32,
 ) -> rule::Reply
-    ensures { λ reply. ⌜ Answers (after scheme (now (relays .entry)) (now (tablets .entry)) (now (moves .entry)) (Set r limit))
+    ensures { λ reply. ⌜ Answers (after scheme (now (relays .entry)) (now (tablets .entry)) (now (moves .entry))
+        (Set r limit))
         reply (lists (now (relays .exit)) (now (tablets .exit)) (now (moves .exit))) ⌝ }
 {
     let e = relay_edit::edit_set(scheme, relays, tablets, r, limit);

@@ -28,7 +28,8 @@ pub bar-first : {b : Bool} {r : Refusal} (bs : List Bar) → b ≡ true → r �
 unfolding firstBar
 bar-first bs e = rw e
 
-pub bar-next : {b : Bool} {r : Refusal} (q : Refusal) (bs : List Bar) → b ≡ false → r ≡ firstBar bs → r ≡ firstBar (bar b q ∷ bs)
+pub bar-next : {b : Bool} {r : Refusal} (q : Refusal) (bs : List Bar) → b ≡ false → r ≡ firstBar bs
+    → r ≡ firstBar (bar b q ∷ bs)
 unfolding firstBar
 bar-next q bs e h = rw e h
 
@@ -48,11 +49,13 @@ module _ {s : ℕ} {rs ts : List ℕ} {n m : ℕ} {v : Survey} (b : Start s rs t
   unfolding wrongNumbers lentOf addRefusal
   add-numbers limit = rw (start-ring b, used)
 
-  pub remove-numbers : firstBar (wrongNumbers (lentOf s rs ts ms) (ringOf rs ts) (Remove r)) ≡ missing (r .0) (has (relaysIn rs n) (r .0))
+  pub remove-numbers : firstBar (wrongNumbers (lentOf s rs ts ms) (ringOf rs ts) (Remove r))
+      ≡ missing (r .0) (has (relaysIn rs n) (r .0))
   unfolding wrongNumbers lentOf missing
   remove-numbers = rw (start-ring b)
 
-  pub set-numbers : (limit : ℕ) → firstBar (wrongNumbers (lentOf s rs ts ms) (ringOf rs ts) (Set r limit)) ≡ setRefusal (r .0) limit
+  pub set-numbers : (limit : ℕ) → firstBar (wrongNumbers (lentOf s rs ts ms) (ringOf rs ts) (Set r limit))
+      ≡ setRefusal (r .0) limit
       (has (relaysIn rs n) (r .0))
   unfolding wrongNumbers lentOf setRefusal
   set-numbers limit = rw (start-ring b)

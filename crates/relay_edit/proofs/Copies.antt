@@ -31,9 +31,16 @@ zeros m k =
     ]
 
 pub copying-none : (rs : List ℕ) → Copying rs (replicate ownNumbers 0) 0
-copying-none rs = record { size = length-replicate {A = ℕ} ownNumbers 0; same = λ k l. absurd (not-suc-le-zero l); rest = λ k l. zeros ownNumbers k }
+copying-none rs =
+    record {
+      size = length-replicate {A = ℕ} ownNumbers 0;
+      same = λ k l. absurd (not-suc-le-zero l);
+      rest = λ k l. zeros
+          ownNumbers k;
+    }
 
-pub copying-more : {rs own : List ℕ} {i : ℕ} → Copying rs own i → i < ownNumbers → Copying rs (set own i (getD rs i 0)) (i + 1)
+pub copying-more : {rs own : List ℕ} {i : ℕ} → Copying rs own i → i < ownNumbers → Copying rs (set own i (getD rs i 0))
+    (i + 1)
 copying-more {rs} {own} {i} c h = record {
   size = length-set own i (getD rs i 0) ∙ c .size;
   same = λ k l. stored (λ k x. x ≡ getD rs k 0) own i (omega (arith, c .size)) refl k (λ d. c .same k (omega arith));
@@ -43,7 +50,11 @@ copying-more {rs} {own} {i} c h = record {
 pub copying-end : {rs own : List ℕ} {i : ℕ} → length rs ≤ i → i ≤ length rs → Copying rs own i → Copied rs own
 copying-end {rs} {own} {i} l u c = record {
   size = c .size;
-  same = λ k. elim (decLt k i) [ yes h ↦ c .same k h | no h ↦ c .rest k (omega arith) ∙ sym (List·getD-eq-default rs 0 (omega arith)) ];
+  same = λ k. elim (decLt k i) [
+    | yes h ↦ c .same k h
+    | no h ↦ c .rest k (omega arith)
+        ∙ sym (List·getD-eq-default rs 0 (omega arith))
+  ];
 }
 
 -- ---- the copy
@@ -59,4 +70,5 @@ module _ {rs own : List ℕ} (c : Copied rs own) where
 
   pub copied-relays : (n : ℕ) → relaysIn own n ≡ relaysIn rs n
   copied-relays n =
-      places-ext (relayNumber own) (relayLimit own) (relayNumber rs) (relayLimit rs) n (λ i h. copied-number i) (λ i h. copied-limit i)
+      places-ext (relayNumber own) (relayLimit own) (relayNumber rs) (relayLimit rs) n (λ i h. copied-number i)
+      (λ i h. copied-limit i)

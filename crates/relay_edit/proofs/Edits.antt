@@ -61,15 +61,18 @@ module _ (r : RelayNumber) where
 
 -- ---- refusals
 
-refused-edit : {s : ℕ} {rs ts : List ℕ} {c : Call} {x : ℕ} {e : Edit} {w : Refusal} → About c x → isDone w ≡ false → e .refusal ≡ w
-    → ((ms : List ℕ) → Rattle.rule.specs.Calls.refusal (positions s) (lentOf s rs ts ms) (ringOf rs ts) c ≡ w) → Edits s rs ts c x e
+refused-edit : {s : ℕ} {rs ts : List ℕ} {c : Call} {x : ℕ} {e : Edit} {w : Refusal} → About c x → isDone w ≡ false
+    → e .refusal ≡ w
+    → ((ms : List ℕ) → Rattle.rule.specs.Calls.refusal (positions s) (lentOf s rs ts ms) (ringOf rs ts) c ≡ w)
+    → Edits s rs ts c x e
 refused-edit a n e h = record {
   about = a;
   refused = λ d ms. h ms ∙ sym e;
   passed-on = λ d. absurd (true-false (sym d ∙ ap isDone e ∙ n));
 }
 
-module _ {s : ℕ} {rs ts : List ℕ} {x : ℕ} {f : Found} (found : Finds s rs ts x f) {d : Bool} (ed : d ≡ isDone (f .refusal)) where
+module _ {s : ℕ} {rs ts : List ℕ} {x : ℕ} {f : Found} (found : Finds s rs ts x f) {d : Bool}
+    (ed : d ≡ isDone (f .refusal)) where
   pub found-refused : {c : Call} {e : Edit} → not d ≡ true → About c x → e .refusal ≡ f .refusal → Edits s rs ts c x e
   found-refused {c} h a e =
       let n : isDone (f .refusal) ≡ false = sym ed ∙ not-true _ h in
@@ -80,8 +83,10 @@ module _ {s : ℕ} {rs ts : List ℕ} {x : ℕ} {f : Found} (found : Finds s rs 
 
 -- ---- the refusals 3 to 7, once the tables are found right
 
-module _ {s : ℕ} {rs ts : List ℕ} {x n m at : ℕ} {there : Bool} {around : Around} (stands : Stands s rs ts x n m at there around) where
-  module _ {c : Call} (a : About c x) {w : Refusal} (why : (ms : List ℕ) → firstBar (wrongNumbers (lentOf s rs ts ms) (ringOf rs ts) c) ≡ w)
+module _ {s : ℕ} {rs ts : List ℕ} {x n m at : ℕ} {there : Bool} {around : Around}
+    (stands : Stands s rs ts x n m at there around) where
+  module _ {c : Call} (a : About c x) {w : Refusal}
+      (why : (ms : List ℕ) → firstBar (wrongNumbers (lentOf s rs ts ms) (ringOf rs ts) c) ≡ w)
       {d : Bool} (ed : d ≡ isDone w) {e : Edit} (ee : e .refusal ≡ w) where
     numbers-refused : not d ≡ true → Edits s rs ts c x e
     numbers-refused h =
@@ -108,7 +113,8 @@ module _ {s : ℕ} {rs ts : List ℕ} {x n m at : ℕ} {there : Bool} {around : 
 
 -- ---- what passing the refusals 3 to 7 says
 
-add-open : (x limit : ℕ) (there full : Bool) → isDone (addRefusal x limit there full) ≡ true → (there ≡ false) × (full ≡ false)
+add-open : (x limit : ℕ) (there full : Bool) → isDone (addRefusal x limit there full) ≡ true → (there ≡ false)
+    × (full ≡ false)
 unfolding addRefusal isDone
 add-open x limit there full h =
     let b₄ : List Bar = bar full NoUnusedPlace ∷ [] in
@@ -125,17 +131,22 @@ set-open x limit there h =
     let b₃ : List Bar = bar (not there) NotThere ∷ [] in
     let b₂ : List Bar = bar (ltb mostLimit limit) TooLarge ∷ b₃ in
     let h₁ = bar-passed (eqb x 0) NumberZero b₂ refl h in
-    not-false there (bar-passed (not there) NotThere [] refl (bar-passed (ltb mostLimit limit) TooLarge b₃ refl (h₁ .1) .1) .0)
+    not-false there (bar-passed (not there) NotThere [] refl
+    (bar-passed (ltb mostLimit limit) TooLarge b₃ refl (h₁ .1) .1) .0)
 
 -- ---- the three calls
 
 module _ {s : ℕ} {rs ts : List ℕ} {n m at : ℕ} {there : Bool} {around : Around} (r : RelayNumber)
     (stands : Stands s rs ts (r .0) n m at there around) {w : Refusal} {d : Bool} (ed : d ≡ isDone w) where
-  module _ (limit : ℕ) {places : ℕ} (ep : places ≡ relayPlaces rs) (ew : w ≡ addRefusal (r .0) limit there (leb places n)) where
+  module _ (limit : ℕ) {places : ℕ} (ep : places ≡ relayPlaces rs)
+      (ew : w ≡ addRefusal (r .0) limit there (leb places n)) where
     add-why : (ms : List ℕ) → firstBar (wrongNumbers (lentOf s rs ts ms) (ringOf rs ts) (Add r limit)) ≡ w
-    add-why ms = add-numbers (stands .start) ms r limit ∙ sym (ew ∙ ap₂ (addRefusal (r .0) limit) (stands .there-is) (ap (λ (k : ℕ). leb k n) ep))
+    add-why ms =
+        add-numbers (stands .start) ms r limit ∙ sym
+        (ew ∙ ap₂ (addRefusal (r .0) limit) (stands .there-is) (ap (λ (k : ℕ). leb k n) ep))
 
-    pub add-refused : {e : Edit} → About (Add r limit) (r .0) → not d ≡ true → e .refusal ≡ w → Edits s rs ts (Add r limit) (r .0) e
+    pub add-refused : {e : Edit} → About (Add r limit) (r .0) → not d ≡ true → e .refusal ≡ w
+        → Edits s rs ts (Add r limit) (r .0) e
     add-refused a h ee = numbers-refused stands a add-why ed ee h
 
     module _ (h : not d ≡ false) {own : List ℕ} (cp : Copied rs own) where
@@ -153,9 +164,12 @@ module _ {s : ℕ} {rs ts : List ℕ} {n m at : ℕ} {there : Bool} {around : Ar
       pub add-asks : PutsIn ts n m at (around .keys)
       add-asks = put-asks stands add-few
 
-      pub add-passed : {e : Edit} → About (Add r limit) (r .0) → r .0 < 2 ^ 32 → e .refusal ≡ w → e .n ≡ n + 1 → m ≡ e .m
-          → WroteRelays own (e .relays) (n + 1) (insert (r .0) limit (relaysIn own n)) → {q : ℕ} → q ≡ positions s .relayAt (r .0) → q < 2 ^ 32
-          → PutIn (positions s) ts n m at q (around .keys) (around .home) (e .around) → Edits s rs ts (Add r limit) (r .0) e
+      pub add-passed : {e : Edit} → About (Add r limit) (r .0) → r .0 < 2 ^ 32 → e .refusal ≡ w → e .n ≡ n + 1
+          → m ≡ e .m
+          → WroteRelays own (e .relays) (n + 1) (insert (r .0) limit (relaysIn own n)) → {q : ℕ}
+          → q ≡ positions s .relayAt (r .0) → q < 2 ^ 32
+          → PutIn (positions s) ts n m at q (around .keys) (around .home) (e .around)
+          → Edits s rs ts (Add r limit) (r .0) e
       add-passed a small ee en em o eq lq t =
           numbers-passed stands a add-why ed ee h (unfold subject in small) em
           (rw en (insert-written stands cp (may-add .0) (may-add .1) r limit refl o))
@@ -165,7 +179,8 @@ module _ {s : ℕ} {rs ts : List ℕ} {n m at : ℕ} {there : Bool} {around : Ar
     remove-why : (ms : List ℕ) → firstBar (wrongNumbers (lentOf s rs ts ms) (ringOf rs ts) (Remove r)) ≡ w
     remove-why ms = remove-numbers (stands .start) ms r ∙ sym (ew ∙ ap (missing (r .0)) (stands .there-is))
 
-    pub remove-refused : {e : Edit} → About (Remove r) (r .0) → not d ≡ true → e .refusal ≡ w → Edits s rs ts (Remove r) (r .0) e
+    pub remove-refused : {e : Edit} → About (Remove r) (r .0) → not d ≡ true → e .refusal ≡ w
+        → Edits s rs ts (Remove r) (r .0) e
     remove-refused a h ee = numbers-refused stands a remove-why ed ee h
 
     module _ (h : not d ≡ false) {own : List ℕ} (cp : Copied rs own) where
@@ -187,7 +202,8 @@ module _ {s : ℕ} {rs ts : List ℕ} {n m at : ℕ} {there : Bool} {around : Ar
     set-why : (ms : List ℕ) → firstBar (wrongNumbers (lentOf s rs ts ms) (ringOf rs ts) (Set r limit)) ≡ w
     set-why ms = set-numbers (stands .start) ms r limit ∙ sym (ew ∙ ap (setRefusal (r .0) limit) (stands .there-is))
 
-    pub set-refused : {e : Edit} → About (Set r limit) (r .0) → not d ≡ true → e .refusal ≡ w → Edits s rs ts (Set r limit) (r .0) e
+    pub set-refused : {e : Edit} → About (Set r limit) (r .0) → not d ≡ true → e .refusal ≡ w
+        → Edits s rs ts (Set r limit) (r .0) e
     set-refused a h ee = numbers-refused stands a set-why ed ee h
 
     module _ (h : not d ≡ false) {own : List ℕ} (cp : Copied rs own) where
@@ -198,7 +214,8 @@ module _ {s : ℕ} {rs ts : List ℕ} {n m at : ℕ} {there : Bool} {around : Ar
       set-fits = change-fits stands cp may-set
 
       pub set-passed : {e : Edit} → About (Set r limit) (r .0) → e .refusal ≡ w → e .n ≡ n → m ≡ e .m
-          → WroteRelays own (e .relays) n (put (relayNumber own at) limit (relaysIn own n)) × SetBeside relayNumber relayLimit own
+          → WroteRelays own (e .relays) n (put (relayNumber own at) limit (relaysIn own n))
+          × SetBeside relayNumber relayLimit own
           (e .relays) at limit
           → e .around ≡ around → Edits s rs ts (Set r limit) (r .0) e
       set-passed a ee en em o ea =

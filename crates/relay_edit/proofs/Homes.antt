@@ -33,11 +33,13 @@ use Rattle.relay_edit.specs.Edited.{Copied}
 use Rattle.relay_edit.proofs.Copies.{copied-number}
 use Rattle.relay_edit.proofs.Numbers.{deleted-number, inserted-number, inserted-here}
 
-module _ {s : ℕ} {rs ts : List ℕ} {x n m at : ℕ} {there : Bool} {around : Around} (stands : Stands s rs ts x n m at there around) where
+module _ {s : ℕ} {rs ts : List ℕ} {x n m at : ℕ} {there : Bool} {around : Around}
+    (stands : Stands s rs ts x n m at there around) where
   rises : Rises (positions s) rs ts n m
   rises = start-rises (stands .start)
 
-  surveyed : Surveyed (positions s) rs ts n m (around .keys) (stands .survey .room) (stands .survey .next) (stands .survey .last)
+  surveyed : Surveyed (positions s) rs ts n m (around .keys) (stands .survey .room) (stands .survey .next)
+      (stands .survey .last)
       (around .home) (stands .survey .slot)
   surveyed = rw (stands .keys, stands .home) (stands .start .surveyed)
 
@@ -83,19 +85,23 @@ module _ {s : ℕ} {rs ts : List ℕ} {x n m at : ℕ} {there : Bool} {around : 
     }
 
     pub put-around : {own′ : List ℕ} (limit : ℕ) {q : ℕ} {r : Around} → n < mostRelays → Place (relayNumber own) n x at
-        → WroteRelays own own′ (n + 1) (insert x limit (relaysIn own n)) → PutIn (positions s) ts n m at q (around .keys) (around .home) r
+        → WroteRelays own own′ (n + 1) (insert x limit (relaysIn own n))
+        → PutIn (positions s) ts n m at q (around .keys) (around .home) r
         → q ≡ positions s .relayAt x → q < 2 ^ 32 → Homes (positions s) own′ ts (n + 1) m (r .keys) (r .home)
     put-around {own′} limit few p o t eq lq =
         put-homes few (p .within) lq surveyed t small
-        (λ i h. inserted-number (relayNumber own) (relayLimit own) (relayNumber own′) (relayLimit own′) limit (p .within) (p .below)
+        (λ i h. inserted-number (relayNumber own) (relayLimit own) (relayNumber own′) (relayLimit own′) limit
+        (p .within) (p .below)
         (p .above) (o .entries) i h ∙ copied-number cp i)
         (eq ∙ ap (positions s .relayAt)
-        (sym (inserted-here (relayNumber own) (relayLimit own) (relayNumber own′) (relayLimit own′) limit (p .within) (p .below) (p .above)
+        (sym (inserted-here (relayNumber own) (relayLimit own) (relayNumber own′) (relayLimit own′) limit (p .within)
+        (p .below) (p .above)
         (o .entries))))
 
     pub take-around : {own′ : List ℕ} {r : Around} → at < n → TookOut relayNumber relayLimit own own′ (n - 1)
         (delete (relayNumber own at) (relaysIn own n))
-        → TakenOut (n - 1) m at (around .keys) (around .home) r → Homes (positions s) own′ ts (n - 1) m (r .keys) (r .home)
+        → TakenOut (n - 1) m at (around .keys) (around .home) r → Homes (positions s) own′ ts (n - 1) m (r .keys)
+        (r .home)
     take-around {own′} h o t =
         let e : n ≡ n - 1 + 1 = omega arith in
         taken-homes (omega (arith, rises .relaysFit .few))

@@ -32,7 +32,8 @@ unfolding firstNumber others
 places-number f b g c zero e i h = absurd (omega arith)
 places-number f b g c (suc n) e zero h = ap firstNumber (sym (places-cons f b n) ∙ e ∙ places-cons g c n)
 places-number f b g c (suc n) e (suc i) h =
-    places-number (next f) (next b) (next g) (next c) n (ap others (sym (places-cons f b n) ∙ e ∙ places-cons g c n)) i (omega arith)
+    places-number (next f) (next b) (next g) (next c) n (ap others (sym (places-cons f b n) ∙ e ∙ places-cons g c n)) i
+    (omega arith)
 
 -- ---- one taken out
 
@@ -75,7 +76,8 @@ module _ (f : ℕ → ℕ) (at x : ℕ) where
       go (low h e) = ap (with-one f at x) e ∙ one-before i h
       go (high h e) = ap (with-one f at x) (e ∙ add-one i) ∙ one-behind i h
 
-module _ (f b g c : ℕ → ℕ) {n at x : ℕ} (v : ℕ) (within : at ≤ n) (below : (i : ℕ) → i < at → f i < x) (above : (i : ℕ) → at ≤ i → i < n → x < f i)
+module _ (f b g c : ℕ → ℕ) {n at x : ℕ} (v : ℕ) (within : at ≤ n) (below : (i : ℕ) → i < at → f i < x)
+    (above : (i : ℕ) → at ≤ i → i < n → x < f i)
     (e : places g c (n + 1) ≡ insert x v (places f b n)) where
   numbers : (i : ℕ) → i < n + 1 → g i ≡ with-one f at x i
   numbers = places-number g c (with-one f at x) (with-one b at v) (n + 1) (e ∙ insert-places opened)

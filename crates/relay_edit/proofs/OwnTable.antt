@@ -34,7 +34,8 @@ use Rattle.relay_edit.specs.Found.{Stands}
 use Rattle.relay_edit.specs.Edited.{ownNumbers, Copied, Written}
 use Rattle.relay_edit.proofs.Copies.{copied-number, copied-limit, copied-relays}
 
-module _ {s : ℕ} {rs ts : List ℕ} {x n m at : ℕ} {there : Bool} {around : Around} (stands : Stands s rs ts x n m at there around) where
+module _ {s : ℕ} {rs ts : List ℕ} {x n m at : ℕ} {there : Bool} {around : Around}
+    (stands : Stands s rs ts x n m at there around) where
   rises : Rises (positions s) rs ts n m
   rises = start-rises (stands .start)
 
@@ -74,17 +75,20 @@ module _ {s : ℕ} {rs ts : List ℕ} {x n m at : ℕ} {there : Bool} {around : 
         record {
           within = stands .spot .within;
           below = λ i l. rw (copied-number cp i) (stands .spot .below i l);
-          above = λ i l u. rw (copied-number cp i) (spot-above (relayLimit rs) (rises .relays) (stands .spot) out i l u);
+          above = λ i l u. rw (copied-number cp i)
+              (spot-above (relayLimit rs) (rises .relays) (stands .spot) out i l u);
         },
       )
 
-      pub insert-written : (r : RelayNumber) (limit : ℕ) {own′ : List ℕ} → r .0 ≡ x → WroteRelays own own′ (n + 1) (insert x limit (relaysIn own n))
+      pub insert-written : (r : RelayNumber) (limit : ℕ) {own′ : List ℕ} → r .0 ≡ x
+          → WroteRelays own own′ (n + 1) (insert x limit (relaysIn own n))
           → Written rs ts (Add r limit) (n + 1) own′
       unfolding edited
       insert-written r limit er o = record {
         size = o .size ∙ cp .size;
         relays = o .entries ∙ same;
-        table = relays-table o (own-places .0) (omega (arith, own-places .1, relays-few (stands .start))) (own-zeros (n + 1) (omega arith))
+        table = relays-table o (own-places .0) (omega (arith, own-places .1, relays-few (stands .start)))
+            (own-zeros (n + 1) (omega arith))
             ∙ ap₂ (λ (k : ℕ) (l : List Entry). filled k (flat l)) (cp .size) same;
         fits = omega arith;
       }

@@ -54,5 +54,6 @@ pub record EditReady (s : ℕ) (rs ts : List ℕ) (c : Call) (n m : ℕ) (own : 
 -- what a call about relay r comes to, whatever the move list
 pub record Edits (s : ℕ) (rs ts : List ℕ) (c : Call) (r : ℕ) (e : Edit) : Type 0 where
   pub about : About c r
-  pub refused : isDone (e .refusal) ≡ false → (ms : List ℕ) → refusal (positions s) (lentOf s rs ts ms) (ringOf rs ts) c ≡ e .refusal
+  pub refused : isDone (e .refusal) ≡ false → (ms : List ℕ) → refusal (positions s) (lentOf s rs ts ms) (ringOf rs ts) c
+      ≡ e .refusal
   pub passed-on : isDone (e .refusal) ≡ true → EditReady s rs ts c (e .n) (e .m) (e .relays) (e .around)

@@ -11,7 +11,9 @@ use Rattle.rule.specs.Refusals.{bar, firstBar}
 
 unfoldable pub addRefusal : ℕ → ℕ → Bool → Bool → Refusal
 addRefusal r limit there full =
-    firstBar (bar (eqb r 0) NumberZero ∷ bar (ltb mostLimit limit) TooLarge ∷ bar there ThereAlready ∷ bar full NoUnusedPlace ∷ [])
+    firstBar (bar (eqb r 0) NumberZero ∷ bar (ltb mostLimit limit) TooLarge ∷ bar there ThereAlready
+    ∷ bar full NoUnusedPlace ∷ [])
 
 unfoldable pub setRefusal : ℕ → ℕ → Bool → Refusal
-setRefusal r limit there = firstBar (bar (eqb r 0) NumberZero ∷ bar (ltb mostLimit limit) TooLarge ∷ bar (not there) NotThere ∷ [])
+setRefusal r limit there =
+    firstBar (bar (eqb r 0) NumberZero ∷ bar (ltb mostLimit limit) TooLarge ∷ bar (not there) NotThere ∷ [])

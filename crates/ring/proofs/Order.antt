@@ -26,7 +26,12 @@ module _ (p : Positions) (t r q : ℕ) where
 
   pub sooner-far : distance p t q < distance p t r → sooner p t r q ≡ false
   unfolding sooner
-  sooner-far h = rw (le-ltb (distance p t r) (distance p t q) (omega arith), ne-eqb (distance p t r) (distance p t q) (λ (e : distance p t r ≡ distance p t q). omega arith))
+  sooner-far h =
+      rw (
+        le-ltb (distance p t r) (distance p t q) (omega arith),
+        ne-eqb (distance p t r) (distance p t q)
+            (λ (e : distance p t r ≡ distance p t q). omega arith),
+      )
 
   pub sooner-key : r < 2 ^ 32 → q < 2 ^ 32 → sooner p t r q ≡ ltb (key p t r) (key p t q)
   unfolding key
@@ -60,14 +65,24 @@ turned p x g r =
     let to-g : ℕ = 2 ^ 32 - p .tabletAt g in
     let to-x : ℕ = 2 ^ 32 - p .tabletAt x in
     let e : p .relayAt r + to-g + 2 ^ 32 ≡ p .relayAt r + to-x + (to-g + (2 ^ 32 - to-x)) = omega arith in
-    sym (add-mod-right (p .relayAt r + to-g) (2 ^ 32)) ∙ ap (λ (n : ℕ). n % 2 ^ 32) e ∙ add-mod (p .relayAt r + to-x) (to-g + (2 ^ 32 - to-x)) (2 ^ 32)
+    sym (add-mod-right (p .relayAt r + to-g) (2 ^ 32)) ∙ ap (λ (n : ℕ). n % 2 ^ 32) e
+    ∙ add-mod (p .relayAt r + to-x) (to-g + (2 ^ 32 - to-x)) (2 ^ 32)
 
 distance-less : (p : Positions) (t r : ℕ) → distance p t r < 2 ^ 32
 unfolding distance clockwise
 distance-less p t r = omega arith
 
-pub rotation : (p : Positions) (x g a b c : ℕ) → a < 2 ^ 32 → b < 2 ^ 32 → c < 2 ^ 32 → key p x a < key p x b → key p x b < key p x c
+pub rotation : (p : Positions) (x g a b c : ℕ) → a < 2 ^ 32 → b < 2 ^ 32 → c < 2 ^ 32 → key p x a < key p x b
+    → key p x b < key p x c
     → key p g a < key p g b → key p g a < key p g c → key p g b < key p g c
 unfolding key ahead-by
 rotation p x g a b c ha hb hc xab xbc gab gac =
-    omega (arith, turned p x g a, turned p x g b, turned p x g c, distance-less p x a, distance-less p x b, distance-less p x c)
+    omega (
+      arith,
+      turned p x g a,
+      turned p x g b,
+      turned p x g c,
+      distance-less p x a,
+      distance-less p x b,
+      distance-less p x c,
+    )

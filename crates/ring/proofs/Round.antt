@@ -16,6 +16,7 @@ pub clockwise-round : (one other : ℕ) → other < one → one < 2 ^ 32 → clo
 unfolding clockwise
 clockwise-round one other h s = omega arith
 
-pub distance-own : (p : Positions) (t r : ℕ) → p .relayAt r ≡ p .tabletAt t → p .tabletAt t < 2 ^ 32 → distance p t r ≡ 0
+pub distance-own : (p : Positions) (t r : ℕ) → p .relayAt r ≡ p .tabletAt t → p .tabletAt t < 2 ^ 32 → distance p t r
+    ≡ 0
 unfolding distance clockwise
 distance-own p t r e s = omega arith

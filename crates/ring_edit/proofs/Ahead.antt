@@ -44,13 +44,15 @@ module _ (keys : List ℕ) (s k t h : ℕ) where
   unfolding homeMore
   more-behind c = rw (le-ltb h s (omega arith), lt-ltb s h c)
 
-  pub more-here : (b : Bool) → h ≡ s → sooner (inSlots keys) t k s ≡ b → homeMore keys s k t h ≡ cond b ((h + 1) % mostRelays) h
+  pub more-here : (b : Bool) → h ≡ s → sooner (inSlots keys) t k s ≡ b → homeMore keys s k t h
+      ≡ cond b ((h + 1) % mostRelays) h
   unfolding homeMore
   more-here b e p = rw (le-ltb h s (omega arith), le-ltb s h (omega arith), p)
 
 -- ---- there: which of the two comes first
 
-module _ {position position′ keys keys′ : List ℕ} {n s new q : ℕ} (l : Grown position position′ keys keys′ n s new q) (t : ℕ) where
+module _ {position position′ keys keys′ : List ℕ} {n s new q : ℕ} (l : Grown position position′ keys keys′ n s new q)
+    (t : ℕ) where
   -- where slot k of the new ring stands, and how far that is with the slot
   abbrev at : ℕ → ℕ
   at k = getD keys′ k 0 / 2 ^ 32
@@ -74,7 +76,8 @@ module _ {position position′ keys keys′ : List ℕ} {n s new q : ℕ} (l : G
   pub new-alone : n ≡ 0 → sooner (inSlots keys′) t (slotAfter n s) s ≡ false
   new-alone e =
       let z : s ≡ 0 = omega (arith, l .from .begins .within) in
-      rw (after-round n s (omega arith), z) (sooner-far 0 0 (omega arith) (omega arith) ∙ le-ltb (far 0) (far 0) (omega arith))
+      rw (after-round n s (omega arith), z) (sooner-far 0 0 (omega arith) (omega arith)
+      ∙ le-ltb (far 0) (far 0) (omega arith))
 
   module _ (small : t < 2 ^ 32) (o : Home keys n (keyAt t) s) where
     few : s < 2 ^ 32 - 1
@@ -93,14 +96,17 @@ module _ {position position′ keys keys′ : List ℕ} {n s new q : ℕ} (l : G
     old-round : n ≤ s → 0 < n → far 0 ≡ (getD keys 0 0 / 2 ^ 32 + (2 ^ 32 - t)) * 2 ^ 32
     old-round b d =
         let e : at 0 ≡ getD keys 0 0 / 2 ^ 32 = ap at (sym (skip-low s 0 (omega arith))) ∙ old-at 0 d in
-        let c : clockwise t (at 0) ≡ at 0 + (2 ^ 32 - t) = clockwise-round t (at 0) (omega (arith, o .begins .passed 0 (omega arith))) small in
+        let c : clockwise t (at 0) ≡ at 0 + (2 ^ 32 - t) = clockwise-round t (at 0)
+        (omega (arith, o .begins .passed 0 (omega arith))) small in
         omega (arith, c, e)
 
     pub old-first : q < t → 0 < n → sooner (inSlots keys′) t (slotAfter n s) s ≡ true
     old-first c d = go (decLt s n)
       where
         new-far : far s ≡ (q + (2 ^ 32 - t)) * 2 ^ 32 + s
-        new-far = let z : clockwise t q ≡ q + (2 ^ 32 - t) = clockwise-round t q c small in omega (arith, ap (clockwise t) new-at)
+        new-far =
+            let z : clockwise t q ≡ q + (2 ^ 32 - t) = clockwise-round t q c small in omega
+            (arith, ap (clockwise t) new-at)
 
         go : Dec (s < n) → sooner (inSlots keys′) t (slotAfter n s) s ≡ true
         go (yes b) =
@@ -108,17 +114,33 @@ module _ {position position′ keys keys′ : List ℕ} {n s new q : ℕ} (l : G
             rw (after-on n s b)
             (sooner-far (s + 1) s (omega (arith, few)) (omega (arith, few))
             ∙ lt-ltb (far (s + 1)) (far s)
-            (omega (arith, old-near b, new-far, a .key, a .below, l .few, l .ordered .holds .small (a .place) (a .below))))
+            (omega (
+              arith,
+              old-near b,
+              new-far,
+              a .key,
+              a .below,
+              l .few,
+              l .ordered .holds .small (a .place)
+                  (a .below),
+            )))
         go (no b) =
             rw (after-round n s (omega arith))
             (sooner-far 0 s (omega arith) (omega (arith, few))
-            ∙ lt-ltb (far 0) (far s) (omega (arith, old-round (omega arith) d, new-far, l .from .begins .passed 0 (omega arith))))
+            ∙ lt-ltb (far 0) (far s) (omega (
+              arith,
+              old-round (omega arith) d,
+              new-far,
+              l .from .begins .passed 0
+                  (omega arith),
+            )))
 
     pub new-first : t ≤ q → sooner (inSlots keys′) t (slotAfter n s) s ≡ false
     new-first c = go (decLt s n) (decLt 0 n)
       where
         new-far : far s ≡ (q - t) * 2 ^ 32 + s
-        new-far = let z : clockwise t q ≡ q - t = clockwise-on t q c (l .small) in omega (arith, ap (clockwise t) new-at)
+        new-far =
+            let z : clockwise t q ≡ q - t = clockwise-on t q c (l .small) in omega (arith, ap (clockwise t) new-at)
 
         go : Dec (s < n) → Dec (0 < n) → sooner (inSlots keys′) t (slotAfter n s) s ≡ false
         go (yes b) _ =

@@ -27,7 +27,8 @@ use Rattle.ring_edit.proofs.More.{Grown, more-ordered}
 use Rattle.ring_edit.proofs.Further.{more-home}
 
 -- the position of the relay at place i
-position-at : (p : Positions) (rs : List ℕ) (n i : ℕ) → n ≤ mostRelays → i < n → getD (relayPositions p rs n) i 0 ≡ p .relayAt (relayNumber rs i)
+position-at : (p : Positions) (rs : List ℕ) (n i : ℕ) → n ≤ mostRelays → i < n → getD (relayPositions p rs n) i 0
+    ≡ p .relayAt (relayNumber rs i)
 unfolding relayPositions
 position-at p rs n i h l = array-at (λ k. p .relayAt (relayNumber rs k)) n i h l
 
@@ -47,13 +48,21 @@ byte-home {n = n} {x = x} few b = elim (decLt (b .slot) mostRelays) [
 module _ {p : Positions} {rs ts : List ℕ} {n m : ℕ} {keys room next last home slot : List ℕ} (few : n ≤ mostRelays)
     (v : Surveyed p rs ts n m keys room next last home slot) where
   pub surveyed-homes : ((t : ℕ) → t < m → p .tabletAt (tabletNumber ts t) < 2 ^ 32) → Homes p rs ts n m keys home
-  surveyed-homes small = record { ordered = v .ordered; size = v .seats .homes; small = small; from = λ t h. byte-home few (v .seats .from t h) }
+  surveyed-homes small =
+      record {
+        ordered = v .ordered;
+        size = v .seats .homes;
+        small = small;
+        from = λ t h. byte-home few
+            (v .seats .from t h);
+      }
 
 -- ---- one relay taken out
 
 pub taken-homes : {p : Positions} {rs own ts : List ℕ} {n m at : ℕ} {keys home : List ℕ} {r : Around} → n < mostRelays
     → Homes p rs ts (n + 1) m keys home
-    → TakenOut n m at keys home r → ((i : ℕ) → i < n → relayNumber own i ≡ relayNumber rs (skip at i)) → Homes p own ts n m (r .keys) (r .home)
+    → TakenOut n m at keys home r → ((i : ℕ) → i < n → relayNumber own i ≡ relayNumber rs (skip at i))
+    → Homes p own ts n m (r .keys) (r .home)
 taken-homes {p} {rs} {own} {ts} {n} {m} {at} {keys} {home} {r} few o t same = record {
   ordered = less-ordered lessened;
   size = t .moved .size ∙ o .size;
@@ -75,18 +84,21 @@ taken-homes {p} {rs} {own} {ts} {n} {m} {at} {keys} {home} {r} few o t same = re
 
 -- ---- one relay put in
 
-pub put-homes : {p : Positions} {rs own ts : List ℕ} {n m at q : ℕ} {keys room next last home slot : List ℕ} {r : Around} → n < mostRelays
+pub put-homes : {p : Positions} {rs own ts : List ℕ} {n m at q : ℕ} {keys room next last home slot : List ℕ}
+    {r : Around} → n < mostRelays
     → at ≤ n → q < 2 ^ 32
     → Surveyed p rs ts n m keys room next last home slot → PutIn p ts n m at q keys home r
-    → ((j : ℕ) → j < m → p .tabletAt (tabletNumber ts j) < 2 ^ 32) → ((i : ℕ) → i < n → relayNumber own (skip at i) ≡ relayNumber rs i)
+    → ((j : ℕ) → j < m → p .tabletAt (tabletNumber ts j) < 2 ^ 32)
+    → ((i : ℕ) → i < n → relayNumber own (skip at i) ≡ relayNumber rs i)
     → q ≡ p .relayAt (relayNumber own at) → Homes p own ts (n + 1) m (r .keys) (r .home)
-put-homes {p} {rs} {own} {ts} {n} {m} {at} {q} {keys} {home = home} {r = r} few within small v t smalls same here = record {
-  ordered = more-ordered grown;
-  size = t .moved .size ∙ v .seats .homes;
-  small = smalls;
-  from = λ j h. rw (t .moved .moved j h)
-      (more-home grown (p .tabletAt (tabletNumber ts j)) (smalls j h) (getD home j 0) (own-home (v .seats .from j h)));
-}
+put-homes {p} {rs} {own} {ts} {n} {m} {at} {q} {keys} {home = home} {r = r} few within small v t smalls same here =
+    record {
+      ordered = more-ordered grown;
+      size = t .moved .size ∙ v .seats .homes;
+      small = smalls;
+      from = λ j h. rw (t .moved .moved j h)
+          (more-home grown (p .tabletAt (tabletNumber ts j)) (smalls j h) (getD home j 0) (own-home (v .seats .from j h)));
+    }
   where
     grown : Grown (relayPositions p rs n) (relayPositions p own (n + 1)) keys (r .keys) n (t .slot) at q
     grown = record {
@@ -108,7 +120,8 @@ put-homes {p} {rs} {own} {ts} {n} {m} {at} {q} {keys} {home = home} {r = r} few 
 
 -- ---- the same relays
 
-ordered-same : {position position′ keys : List ℕ} {n : ℕ} → ((i : ℕ) → i < n → getD position′ i 0 ≡ getD position i 0) → Ordered position n keys
+ordered-same : {position position′ keys : List ℕ} {n : ℕ} → ((i : ℕ) → i < n → getD position′ i 0 ≡ getD position i 0)
+    → Ordered position n keys
     → Ordered position′ n keys
 unfolding ringKey
 ordered-same {keys = keys} e o = record {
@@ -116,7 +129,8 @@ ordered-same {keys = keys} e o = record {
     size = o .holds .size;
     small = λ i h. rw (e i h) (o .holds .small i h);
     relay = o .holds .relay;
-    key = λ k h. o .holds .key k h ∙ ap (λ (x : ℕ). x * 2 ^ 32 + slotRelay keys k) (sym (e (slotRelay keys k) (o .holds .relay k h)));
+    key = λ k h. o .holds .key k h ∙ ap (λ (x : ℕ). x * 2 ^ 32 + slotRelay keys k)
+        (sym (e (slotRelay keys k) (o .holds .relay k h)));
     every = o .holds .every;
     apart = o .holds .apart;
   };
@@ -127,7 +141,8 @@ pub kept-homes : {p : Positions} {rs own ts : List ℕ} {n m : ℕ} {keys home :
     → ((i : ℕ) → i < n → relayNumber own i ≡ relayNumber rs i)
     → Homes p rs ts n m keys home → Homes p own ts n m keys home
 kept-homes {p} {rs} {own} {n = n} few same o = record {
-  ordered = ordered-same (λ i h. position-at p own n i few h ∙ ap (p .relayAt) (same i h) ∙ sym (position-at p rs n i few h)) (o .ordered);
+  ordered = ordered-same (λ i h. position-at p own n i few h ∙ ap (p .relayAt) (same i h)
+      ∙ sym (position-at p rs n i few h)) (o .ordered);
   size = o .size;
   small = o .small;
   from = o .from;

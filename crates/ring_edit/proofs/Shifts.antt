@@ -47,10 +47,12 @@ pub keys-less-more : {before after : List ℕ} {k s at v : ℕ} → KeysLess k s
     → KeysLess (k + 1) s at before (set after k v)
 keys-less-more {before} {after} {k} {s} {at} o h e = record {
   size = simp length-set (o .size);
-  others = λ l d. stored (λ l x. x ≡ lowered at (getD before (skip s l) 0)) after k (omega (arith, o .size)) e l (λ z. o .others l (omega arith));
+  others = λ l d. stored (λ l x. x ≡ lowered at (getD before (skip s l) 0)) after k (omega (arith, o .size)) e l
+      (λ z. o .others l (omega arith));
 }
 
-pub keys-less-end : {before after : List ℕ} {n k s at : ℕ} → n ≤ k → KeysLess k s at before after → KeysLess n s at before after
+pub keys-less-end : {before after : List ℕ} {n k s at : ℕ} → n ≤ k → KeysLess k s at before after
+    → KeysLess n s at before after
 keys-less-end h o = record { size = o .size; others = λ l d. o .others l (omega arith) }
 
 -- ---- keys raised
@@ -63,12 +65,14 @@ pub record Raising (k s at : ℕ) (before after : List ℕ) : Type 0 where
 pub raising-none : {before after : List ℕ} (s at : ℕ) → length after ≡ mostRelays → Raising 0 s at before after
 raising-none s at e = record { size = e; others = λ k h. absurd (not-suc-le-zero h) }
 
-pub raising-more : {before after : List ℕ} {k s at i v : ℕ} → Raising k s at before after → i ≡ skip s k → i < mostRelays
+pub raising-more : {before after : List ℕ} {k s at i v : ℕ} → Raising k s at before after → i ≡ skip s k
+    → i < mostRelays
     → v ≡ raised at (getD before k 0)
     → Raising (k + 1) s at before (set after i v)
 raising-more {before} {after} {k} {s} {at} {i} {v} o ei h e = record {
   size = simp length-set (o .size);
-  others = below-more _ _ (λ l d. getD-set-other after i (skip s l) v 0 (λ z. omega (arith, skip-one s l k (z ∙ ei))) ∙ o .others l d)
+  others = below-more _ _ (λ l d. getD-set-other after i (skip s l) v 0 (λ z. omega (arith, skip-one s l k (z ∙ ei)))
+      ∙ o .others l d)
       (ap (λ (j : ℕ). getD (set after i v) j 0) (sym ei) ∙ getD-set-same after i v 0 (omega (arith, o .size)) ∙ e);
 }
 
@@ -85,18 +89,22 @@ raising-end {after = after} {s = s} {x = x} h b o = record {
 pub moved-none : (f : ℕ → ℕ → ℕ) (before : List ℕ) → HomesMoved f 0 before before
 moved-none f before = record { size = refl; moved = λ t h. absurd (not-suc-le-zero h); rest = λ t h. refl }
 
-pub moved-more : (f : ℕ → ℕ → ℕ) {j v : ℕ} {before after : List ℕ} → HomesMoved f j before after → j < length before → v ≡ f j (getD after j 0)
+pub moved-more : (f : ℕ → ℕ → ℕ) {j v : ℕ} {before after : List ℕ} → HomesMoved f j before after → j < length before
+    → v ≡ f j (getD after j 0)
     → HomesMoved f (j + 1) before (set after j v)
 moved-more f {j} {v} {before} {after} o h e = record {
   size = simp length-set (o .size);
   moved = λ t d.
-      stored (λ t x. x ≡ f t (getD before t 0)) after j (omega (arith, o .size)) (e ∙ ap (f j) (o .rest j (omega arith))) t
+      stored (λ t x. x ≡ f t (getD before t 0)) after j (omega (arith, o .size))
+      (e ∙ ap (f j) (o .rest j (omega arith))) t
       (λ z. o .moved t (omega arith));
   rest = λ t d. getD-set-other after j t v 0 (λ z. omega arith) ∙ o .rest t (omega arith);
 }
 
-pub moved-end : (f : ℕ → ℕ → ℕ) {j m : ℕ} {before after : List ℕ} → m ≤ j → j ≤ m → HomesMoved f j before after → HomesMoved f m before after
-moved-end f a b o = record { size = o .size; moved = λ t h. o .moved t (omega arith); rest = λ t h. o .rest t (omega arith) }
+pub moved-end : (f : ℕ → ℕ → ℕ) {j m : ℕ} {before after : List ℕ} → m ≤ j → j ≤ m → HomesMoved f j before after
+    → HomesMoved f m before after
+moved-end f a b o =
+    record { size = o .size; moved = λ t h. o .moved t (omega arith); rest = λ t h. o .rest t (omega arith) }
 
 -- ---- both
 

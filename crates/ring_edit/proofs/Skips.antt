@@ -25,7 +25,8 @@ unfolding skip
 skip-high s k h = rw (le-ltb k s h)
 
 pub skip-cases : (s k : ℕ) → Skip s k
-skip-cases s k = elim (decLt k s) [ yes h ↦ low h (skip-low s k h) | no h ↦ let l : s ≤ k = omega arith in high l (skip-high s k l) ]
+skip-cases s k =
+    elim (decLt k s) [ yes h ↦ low h (skip-low s k h) | no h ↦ let l : s ≤ k = omega arith in high l (skip-high s k l) ]
 
 pub skip-off : (s k : ℕ) → skip s k ≡ s → ⊥
 skip-off s k e = go (skip-cases s k)

@@ -46,7 +46,8 @@ slotAfter n s = cond (ltb s n) (s + 1) 0
 
 unfoldable pub homeMore : List ℕ → ℕ → ℕ → ℕ → ℕ → ℕ
 homeMore keys s k t h =
-    cond (ltb h s) h (cond (ltb s h) ((h + 1) % mostRelays) (cond (sooner (inSlots keys) t k s) ((h + 1) % mostRelays) h))
+    cond (ltb h s) h (cond (ltb s h) ((h + 1) % mostRelays)
+    (cond (sooner (inSlots keys) t k s) ((h + 1) % mostRelays) h))
 
 abbrev pub moreAt : Positions → List ℕ → List ℕ → ℕ → ℕ → ℕ → ℕ → ℕ
 moreAt p ts keys s k t h = homeMore keys s k (p .tabletAt (tabletNumber ts t)) h

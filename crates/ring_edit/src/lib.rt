@@ -152,7 +152,8 @@ fn comes_first(
     s: usize,
 ) -> bool
     requires { ⌜ (j < tabletPlaces (now tablets)) × (k < mostRelays) × (s < mostRelays) ⌝ }
-    ensures { λ r. ⌜ r ≡ sooner (inSlots (now (keys .entry))) (positions scheme .tabletAt (tabletNumber (now (tablets .entry)) j)) k s ⌝ }
+    ensures { λ r. ⌜ r ≡ sooner (inSlots (now (keys .entry)))
+        (positions scheme .tabletAt (tabletNumber (now (tablets .entry)) j)) k s ⌝ }
 {
     let p = ring::tablet_at(scheme, tables::tablet_number(tablets, j));
     nearest::sooner(keys, k, s, p)
@@ -169,7 +170,8 @@ fn home_more(
     h: u8,
 ) -> u8
     requires { ⌜ (j < tabletPlaces (now tablets)) × (s < mostRelays) × (k < mostRelays) ⌝ }
-    ensures { λ r. ⌜ r ≡ homeMore (now (keys .entry)) s k (positions scheme .tabletAt (tabletNumber (now (tablets .entry)) j)) h ⌝ }
+    ensures { λ r. ⌜ r ≡ homeMore (now (keys .entry)) s k
+        (positions scheme .tabletAt (tabletNumber (now (tablets .entry)) j)) h ⌝ }
 {
     let was = h as usize;
     let next = ((was + 1) % ring::MOST_RELAYS) as u8;

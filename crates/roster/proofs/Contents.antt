@@ -40,14 +40,16 @@ use Rattle.roster.proofs.Blocks.{flat-places}
 -- ---- what the check found
 
 module _ (s : ℕ) (rs ts : List ℕ) where
-  pub full-refused : known s ≡ true → {r : Refusal} → r ≡ tablesRefusal s rs ts → isDone r ≡ false → false ≡ fullTables s rs ts
+  pub full-refused : known s ≡ true → {r : Refusal} → r ≡ tablesRefusal s rs ts → isDone r ≡ false
+      → false ≡ fullTables s rs ts
   unfolding fullTables tablesRefusal tablesBars firstBar isDone
   full-refused k {r} e h =
       split (tablesRight s rs ts)
       (λ t. absurd (true-false (sym (ap isDone e ∙ rw (k, t)) ∙ h)))
       (λ t. rw t)
 
-module _ {s : ℕ} {rs ts : List ℕ} {n m : ℕ} {v : Survey} (b : Start s rs ts n m v) {k : ℕ} (ek : k ≡ relayPlaces rs) where
+module _ {s : ℕ} {rs ts : List ℕ} {n m : ℕ} {v : Survey} (b : Start s rs ts n m v) {k : ℕ}
+    (ek : k ≡ relayPlaces rs) where
   pub full-relays : (n ≡ k → ⊥) → false ≡ fullTables s rs ts
   unfolding fullTables
   full-relays d = rw (b .right, ← b .relays, ← ek, ne-eqb n k d)
@@ -62,12 +64,14 @@ module _ {s : ℕ} {rs ts : List ℕ} {n m : ℕ} {v : Survey} (b : Start s rs t
 used-all : (number : ℕ → ℕ) (n : ℕ) → ((i : ℕ) → i < n → 0 < number i) → used number n ≡ n
 unfolding used
 used-all number zero h = refl
-used-all number (suc n) h = rw (used-all number n (λ i k. h i (omega arith)), lt-ltb 0 (number n) (h n (omega arith))) (omega arith)
+used-all number (suc n) h =
+    rw (used-all number n (λ i k. h i (omega arith)), lt-ltb 0 (number n) (h n (omega arith))) (omega arith)
 
 rising-numbered : (low : ℕ) (es : List Entry) → Rising low (numbers es) → numbered es ≡ true
 unfolding numbers numbered
 rising-numbered low [] up = refl
-rising-numbered low (e ∷ es) up = rw (lt-ltb 0 (e .number) (omega (arith, up .0))) (rising-numbered (e .number) es (up .1))
+rising-numbered low (e ∷ es) up =
+    rw (lt-ltb 0 (e .number) (omega (arith, up .0))) (rising-numbered (e .number) es (up .1))
 
 module _ (s : ℕ) (es fs : List Entry) (few : length es ≤ mostRelays) (fewer : length fs ≤ mostTablets) where
   abbrev ring : Ring
@@ -144,11 +148,22 @@ module _ (s : ℕ) (es fs : List Entry) (few : length es ≤ mostRelays) (fewer 
       let k₃ : Bool = Rule.right (positions s) ring in
       let t : k₃ ≡ true = and-right k₂ k₃ (and-right k₁ (k₂ && k₃) e) in
       let r : Right (positions s) ring = Right.right-is (positions s) ring t in
-      let ar : Ascending (relayNumber rs) n = places-table (relayNumber rs) (relayLimit rs) n (rw relay-entries (r .relays)) in
-      let at : Ascending (tabletNumber ts) m = places-table (tabletNumber ts) (tabletRelay ts) m (rw tablet-entries (r .tablets)) in
-      let er : relaysUsed rs ≡ n = ap (used (relayNumber rs)) relay-places ∙ used-all (relayNumber rs) n (ar .numbered) in
-      let et : tabletsUsed ts ≡ m = ap (used (tabletNumber ts)) tablet-places ∙ used-all (tabletNumber ts) m (at .numbered) in
-      rw (full-fit er et, full-ring er et, t, eq-eqb (relaysUsed rs) (relayPlaces rs) (er ∙ sym relay-places), eq-eqb (tabletsUsed ts) (tabletPlaces ts) (et ∙ sym tablet-places))
+      let ar : Ascending (relayNumber rs) n = places-table (relayNumber rs) (relayLimit rs) n
+      (rw relay-entries (r .relays)) in
+      let at : Ascending (tabletNumber ts) m = places-table (tabletNumber ts) (tabletRelay ts) m
+      (rw tablet-entries (r .tablets)) in
+      let er : relaysUsed rs ≡ n = ap (used (relayNumber rs)) relay-places
+      ∙ used-all (relayNumber rs) n (ar .numbered) in
+      let et : tabletsUsed ts ≡ m = ap (used (tabletNumber ts)) tablet-places
+      ∙ used-all (tabletNumber ts) m (at .numbered) in
+      rw (
+        full-fit er et,
+        full-ring er et,
+        t,
+        eq-eqb (relaysUsed rs) (relayPlaces rs) (er ∙ sym relay-places),
+        eq-eqb
+            (tabletsUsed ts) (tabletPlaces ts) (et ∙ sym tablet-places),
+      )
 
   pub full-content : fullTables s rs ts ≡ ringRight s ring
   full-content = same-test (fullTables s rs ts) (ringRight s ring) full-is full-from

@@ -41,13 +41,15 @@ module _ (p : Positions) (g : Ring) (e : Entries g) where
   right-placed : right p g ≡ true → placement p (g .relays) (numbers (g .tablets)) ≡ some (g .tablets)
   right-placed h =
       let r : Right p g = right-is p g h in
-      placement-fill p (g .relays) 0 (r .relays .up) (r .relays .small) (numbers (g .tablets)) (omega (arith, r .enough, length-numbers (g .tablets)))
+      placement-fill p (g .relays) 0 (r .relays .up) (r .relays .small) (numbers (g .tablets))
+      (omega (arith, r .enough, length-numbers (g .tablets)))
       ∙ ap some (sym (r .ruled))
 
   placed-right : placement p (g .relays) (numbers (g .tablets)) ≡ some (g .tablets) → right p g ≡ true
   placed-right h =
       let rs : Table (g .relays) = table-is (g .relays) (e .relays) in
-      let d : (length (numbers (g .tablets)) ≤ total (g .relays)) × (g .tablets ≡ fill (key p) (g .relays) (numbers (g .tablets))) =
+      let d : (length (numbers (g .tablets)) ≤ total (g .relays))
+      × (g .tablets ≡ fill (key p) (g .relays) (numbers (g .tablets))) =
       placed-is p (g .relays) rs (numbers (g .tablets)) (g .tablets) h in
       right-from p g
       (record {
@@ -65,7 +67,8 @@ module _ (b rs ts : List ℕ) where
   abbrev g : Ring
   g = rosterRing b
 
-  module _ (shape : shapeRight b ≡ true) (scheme : known (rosterScheme b) ≡ true) (fit : tablesFit (relayCount b) (tabletCount b) rs ts ≡ true) (e : Entries g) where
+  module _ (shape : shapeRight b ≡ true) (scheme : known (rosterScheme b) ≡ true)
+      (fit : tablesFit (relayCount b) (tabletCount b) rs ts ≡ true) (e : Entries g) where
     content-is : contentRight b ≡ right p g
     unfolding contentRight ringRight
     content-is = rw (rising-numbered 0 (g .relays) (e .relays), rising-numbered 0 (g .tablets) (e .tablets))
@@ -75,8 +78,10 @@ module _ (b rs ts : List ℕ) where
     refusal-is true h = rw (shape, scheme, fit, h)
     refusal-is false h = rw (shape, scheme, fit, h)
 
-    pub taken-placed : isDone (refusal b rs ts) ≡ true → placement p (g .relays) (numbers (g .tablets)) ≡ some (g .tablets)
+    pub taken-placed : isDone (refusal b rs ts) ≡ true → placement p (g .relays) (numbers (g .tablets))
+        ≡ some (g .tablets)
     taken-placed d = right-placed p g e (sym content-is ∙ sym (refusal-is (contentRight b) refl) ∙ d)
 
-    pub placed-taken : placement p (g .relays) (numbers (g .tablets)) ≡ some (g .tablets) → isDone (refusal b rs ts) ≡ true
+    pub placed-taken : placement p (g .relays) (numbers (g .tablets)) ≡ some (g .tablets) → isDone (refusal b rs ts)
+        ≡ true
     placed-taken h = refusal-is true (content-is ∙ placed-right p g e h)

@@ -70,5 +70,11 @@ pub reading-examples :
     ∷ refused OutputUnfit six five
     ∷ refused RosterContentWrong six six
     ∷ []
-unfolding Fnv.fourBytes Fnv.mixed Fnv.mixedAll Fnv.fnv Scheme.known Scheme.position Scheme.positions Clockwise.clockwise Clockwise.distance Clockwise.sooner Entry.numbers Entry.count Entry.load Entry.first Order.queued Order.order Rule.hasRoom Rule.seat Rule.seatAll Rule.placement Rule.rising Rule.limitsFit Rule.same Rule.isJust Rule.right Refusals.isDone Refusals.firstBar Table.relayPlaces Table.relayWhole Table.tabletPlaces Table.tabletWhole Shape.relayFits Shape.tabletFits Meaning.places Tables.flat Tables.filled Tables.relayTable Tables.tabletTable Numbers.numberAt Roster.field Roster.shaped Roster.shapeRight Roster.block Roster.rosterRing Content.numbered Content.ringRight Content.contentRight Content.tablesFit Reading.refusal Reading.taken Promise.settled Reading.after
+unfolding Fnv.fourBytes Fnv.mixed Fnv.mixedAll Fnv.fnv Scheme.known Scheme.position Scheme.positions Clockwise.clockwise
+    Clockwise.distance Clockwise.sooner Entry.numbers Entry.count Entry.load Entry.first Order.queued Order.order
+    Rule.hasRoom Rule.seat Rule.seatAll Rule.placement Rule.rising Rule.limitsFit Rule.same Rule.isJust Rule.right
+    Refusals.isDone Refusals.firstBar Table.relayPlaces Table.relayWhole Table.tabletPlaces Table.tabletWhole
+    Shape.relayFits Shape.tabletFits Meaning.places Tables.flat Tables.filled Tables.relayTable Tables.tabletTable
+    Numbers.numberAt Roster.field Roster.shaped Roster.shapeRight Roster.block Roster.rosterRing Content.numbered
+    Content.ringRight Content.contentRight Content.tablesFit Reading.refusal Reading.taken Promise.settled Reading.after
 reading-examples = refl

@@ -16,14 +16,16 @@ use Rattle.write.specs.Tables.{filled}
 
 module _ (table block : List ℕ) (i : ℕ) (so-far : take (2 * i) table ≡ take (2 * i) block) where
   pub front-more : 2 * i + 1 < length block → 2 * i + 1 < length table
-      → take (2 * (i + 1)) (set (set table (2 * i) (getD block (2 * i) 0)) (2 * i + 1) (getD block (2 * i + 1) 0)) ≡ take (2 * (i + 1)) block
+      → take (2 * (i + 1)) (set (set table (2 * i) (getD block (2 * i) 0)) (2 * i + 1) (getD block (2 * i + 1) 0))
+      ≡ take (2 * (i + 1)) block
   front-more h k =
       let e : 2 * (i + 1) ≡ suc (suc (2 * i)) = omega arith in
       let one : List ℕ = set table (2 * i) (getD block (2 * i) 0) in
       rw (
         e,
         add-one,
-        take-suc-set one (suc (2 * i)) (getD block (suc (2 * i)) 0) (omega (arith, length-set table (2 * i) (getD block (2 * i) 0))),
+        take-suc-set one (suc (2 * i)) (getD block (suc (2 * i)) 0)
+            (omega (arith, length-set table (2 * i) (getD block (2 * i) 0))),
         take-suc-set table (2 * i) (getD block (2 * i) 0) (omega arith),
         take-suc block (suc (2 * i)) 0 (omega arith),
         take-suc block (2 * i) 0 (omega arith),
@@ -45,12 +47,16 @@ module _ (table front : List ℕ) (from i : ℕ) (so-far : take i table ≡ fron
   zeros-more h k =
       let e : i - from + 1 ≡ suc i - from = omega arith in
       rw (add-one, take-suc-set table i 0 k, so-far)
-      (append-assoc front (replicate (i - from) 0) (0 ∷ []) ∙ ap (λ (l : List ℕ). front ++ l) (replicate-append-replicate (i - from) 1 0 ∙ ap (λ (n : ℕ). replicate {A = ℕ} n 0) e))
+      (append-assoc front (replicate (i - from) 0) (0 ∷ [])
+      ∙ ap (λ (l : List ℕ). front ++ l) (replicate-append-replicate (i - from) 1 0
+      ∙ ap (λ (n : ℕ). replicate {A = ℕ} n 0) e))
 
   pub zeros-all : {len : ℕ} → length table ≡ len → i ≤ len → len ≤ i → table ≡ front ++ replicate (len - from) 0
-  zeros-all {len} l p q = sym (take-all i table (omega arith)) ∙ so-far ∙ ap (λ (n : ℕ). front ++ replicate (n - from) 0) (le-antisymm p q)
+  zeros-all {len} l p q =
+      sym (take-all i table (omega arith)) ∙ so-far ∙ ap (λ (n : ℕ). front ++ replicate (n - from) 0) (le-antisymm p q)
 
-pub front-filled : (block copied : List ℕ) {len : ℕ} {table : List ℕ} → length copied ≡ len → take (length block) copied ≡ block
+pub front-filled : (block copied : List ℕ) {len : ℕ} {table : List ℕ} → length copied ≡ len → take (length block) copied
+    ≡ block
     → table ≡ take (length block) copied ++ replicate (length copied - length block) 0 → table ≡ filled len block
 unfolding filled
 front-filled block copied l p e = e ∙ rw (p, l)

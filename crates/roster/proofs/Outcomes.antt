@@ -35,13 +35,17 @@ use Rattle.roster.proofs.Contents.{full-content}
 -- ---- the promise of a refused reading
 
 module _ (b rs ts : List ℕ) where
-  refused-answers : (why : Refusal) → refusal b rs ts ≡ why → isDone why ≡ false → {r : Reading} → r ≡ refusedReading why → Answers (after b rs ts) r (rs, ts)
+  refused-answers : (why : Refusal) → refusal b rs ts ≡ why → isDone why ≡ false → {r : Reading}
+      → r ≡ refusedReading why → Answers (after b rs ts) r (rs, ts)
   unfolding after
   refused-answers why e h er =
-      Promise.refused-answers (refusal b rs ts) (refusedReading (refusal b rs ts)) (rs, ts) _ (ap isDone e ∙ h) (er ∙ ap refusedReading (sym e))
+      Promise.refused-answers (refusal b rs ts) (refusedReading (refusal b rs ts)) (rs, ts) _ (ap isDone e ∙ h)
+      (er ∙ ap refusedReading (sym e))
 
-  taken-answers : refusal b rs ts ≡ Done → {r : Reading} {rs′ ts′ : List ℕ} → r .reply ≡ bareReply Done → r .scheme ≡ rosterScheme b
-      → rs′ ≡ relayTable (length rs) (rosterRing b) → ts′ ≡ tabletTable (length ts) (rosterRing b) → Answers (after b rs ts) r (rs′, ts′)
+  taken-answers : refusal b rs ts ≡ Done → {r : Reading} {rs′ ts′ : List ℕ} → r .reply ≡ bareReply Done → r .scheme
+      ≡ rosterScheme b
+      → rs′ ≡ relayTable (length rs) (rosterRing b) → ts′ ≡ tabletTable (length ts) (rosterRing b)
+      → Answers (after b rs ts) r (rs′, ts′)
   unfolding after taken isDone
   taken-answers e er es ers ets =
       Promise.done-answers (refusal b rs ts) (refusedReading (refusal b rs ts)) (rs, ts) (taken b rs ts) (ap isDone e)
@@ -55,7 +59,8 @@ pub record Open (b rs ts : List ℕ) (t : Trailer) : Type 0 where
   pub fit : tablesFit (t .relays) (t .tablets) rs ts ≡ true
   pub says : Says b t
 
-module _ (b rs ts : List ℕ) {t : Trailer} (o : t ≡ trailerOf b) {bar : Refusal} (e : bar ≡ earlyRefusal (t .right) (t .scheme) (t .relays) (t .tablets) rs ts)
+module _ (b rs ts : List ℕ) {t : Trailer} (o : t ≡ trailerOf b) {bar : Refusal}
+    (e : bar ≡ earlyRefusal (t .right) (t .scheme) (t .relays) (t .tablets) rs ts)
     {done : Bool} (ed : done ≡ isDone bar) where
   pub open-done : not done ≡ false → Open b rs ts t
   unfolding earlyRefusal firstBar isDone
@@ -108,7 +113,8 @@ module _ {b rs ts : List ℕ} {t : Trailer} (o : Open b rs ts t) where
   pub open-few : (2 * t .relays ≤ 512) × (2 * t .tablets ≤ 8192)
   open-few = (omega (arith, shape .relays, o .says .relays), omega (arith, shape .tablets, o .says .tablets))
 
-  pub open-room : {own own₂ : List ℕ} → length own ≡ 2 * t .relays → length own₂ ≡ 2 * t .tablets → Room b (t .relays) (t .tablets) own own₂ rs ts
+  pub open-room : {own own₂ : List ℕ} → length own ≡ 2 * t .relays → length own₂ ≡ 2 * t .tablets
+      → Room b (t .relays) (t .tablets) own own₂ rs ts
   unfolding relayPlaces tabletPlaces
   open-room e e₂ =
       record {
@@ -119,10 +125,15 @@ module _ {b rs ts : List ℕ} {t : Trailer} (o : Open b rs ts t) where
         tablets = omega (arith, fits .1);
       }
 
-  open-ring : rosterRing b ≡ record { relays = block b 0 (t .relays); tablets = block b (entryBytes * t .relays) (t .tablets) }
+  open-ring : rosterRing b ≡ record {
+    relays = block b 0 (t .relays);
+    tablets = block b (entryBytes * t .relays)
+        (t .tablets);
+  }
   open-ring = shape-ring b shape ∙ rw (o .says .relays, o .says .tablets)
 
-  open-content : fullTables (t .scheme) (flat (block b 0 (t .relays))) (flat (block b (entryBytes * t .relays) (t .tablets))) ≡ contentRight b
+  open-content : fullTables (t .scheme) (flat (block b 0 (t .relays)))
+      (flat (block b (entryBytes * t .relays) (t .tablets))) ≡ contentRight b
   unfolding contentRight
   open-content =
       full-content (t .scheme) (block b 0 (t .relays)) (block b (entryBytes * t .relays) (t .tablets))
@@ -146,7 +157,8 @@ module _ {b rs ts : List ℕ} {t : Trailer} (o : Open b rs ts t) where
         )
         e
 
-    pub over-wrong : not r ≡ true → {x : Reading} → x ≡ refusedReading RosterContentWrong → Answers (after b rs ts) x (rs′, ts′)
+    pub over-wrong : not r ≡ true → {x : Reading} → x ≡ refusedReading RosterContentWrong
+        → Answers (after b rs ts) x (rs′, ts′)
     unfolding firstBar isDone
     over-wrong h ex =
         let f : r ≡ false = not-true r h in
@@ -154,8 +166,10 @@ module _ {b rs ts : List ℕ} {t : Trailer} (o : Open b rs ts t) where
         let et : ts′ ≡ ts = w .tablets ∙ rw f in
         rw (er, et) (refused-answers b rs ts RosterContentWrong (why-content RosterContentWrong (rw h)) refl ex)
 
-    pub over-right : not r ≡ false → {x : Reading} → x .reply ≡ bareReply Done → x .scheme ≡ t .scheme → Answers (after b rs ts) x (rs′, ts′)
+    pub over-right : not r ≡ false → {x : Reading} → x .reply ≡ bareReply Done → x .scheme ≡ t .scheme
+        → Answers (after b rs ts) x (rs′, ts′)
     unfolding firstBar relayTable tabletTable
     over-right h er es =
         let f : r ≡ true = not-false r h in
-        taken-answers b rs ts (why-content Done (rw h)) er (es ∙ o .says .scheme) (w .relays ∙ rw (f, open-ring)) (w .tablets ∙ rw (f, open-ring))
+        taken-answers b rs ts (why-content Done (rw h)) er (es ∙ o .says .scheme) (w .relays ∙ rw (f, open-ring))
+        (w .tablets ∙ rw (f, open-ring))

@@ -13,4 +13,5 @@ use Rattle.roster.specs.Reading.{readingBars, refusal, aheadIn, turnOf}
 pub reading-lowest : (b rs ts : List ℕ) → Lowest turnOf (readingBars b rs ts) (refusal b rs ts)
 unfolding refusal aheadIn isDone
 reading-lowest b rs ts =
-    lowest-first turnOf (readingBars b rs ts) (omega arith, (omega arith, (omega arith, (omega arith, tt)))) (refl, (refl, (refl, (refl, tt))))
+    lowest-first turnOf (readingBars b rs ts) (omega arith, (omega arith, (omega arith, (omega arith, tt))))
+    (refl, (refl, (refl, (refl, tt))))

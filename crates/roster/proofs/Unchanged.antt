@@ -27,11 +27,14 @@ module _ (b rs ts : List ℕ) {r : Reading} {l : List ℕ × List ℕ} (a : Answ
       (λ d. rw (settled-refused why (refusedReading why) (rs, ts) (taken b rs ts) d))
 
   pub reply-zeros : r .reply ≡ bareReply (r .reply .refusal)
-  reply-zeros = ap (λ (x : Reading). x .reply) (a .reply) ∙ zeros ∙ ap (λ (x : Reading). bareReply (x .reply .refusal)) (sym (a .reply))
+  reply-zeros =
+      ap (λ (x : Reading). x .reply) (a .reply) ∙ zeros ∙ ap (λ (x : Reading). bareReply (x .reply .refusal))
+      (sym (a .reply))
 
   pub refused-stays : isDone (r .reply .refusal) ≡ false → (r .scheme ≡ 0) × (l ≡ (rs, ts))
   unfolding after taken isDone
   refused-stays f =
       let e : (r ≡ refusedReading why) × (l ≡ (rs, ts)) =
-      Promise.refused-stays why (refusedReading why) (rs, ts) (taken b rs ts) (λ x. x .reply .refusal) (λ _. refl) a f in
+      Promise.refused-stays why (refusedReading why) (rs, ts) (taken b rs ts) (λ x. x .reply .refusal)
+      (λ _. refl) a f in
       (ap (λ (x : Reading). x .scheme) (e .0), e .1)

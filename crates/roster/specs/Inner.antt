@@ -19,7 +19,8 @@ use Rattle.roster.specs.Content.{tablesFit}
 -- the refusals that come before the content
 unfoldable pub earlyRefusal : Bool → ℕ → ℕ → ℕ → List ℕ → List ℕ → Refusal
 earlyRefusal shape scheme n m rs ts =
-    firstBar (bar (not shape) RosterShapeWrong ∷ bar (not (known scheme)) SchemeUnknown ∷ bar (not (tablesFit n m rs ts)) OutputUnfit ∷ [])
+    firstBar (bar (not shape) RosterShapeWrong ∷ bar (not (known scheme)) SchemeUnknown ∷ bar
+    (not (tablesFit n m rs ts)) OutputUnfit ∷ [])
 
 -- right tables with an entry in every place
 unfoldable pub fullTables : ℕ → List ℕ → List ℕ → Bool

@@ -103,7 +103,8 @@ fn copy(table: &mut [u32], block: &[u32], count: usize)
 // Zeros from a place on.
 fn clear(table: &mut [u32], from: usize)
     requires { ⌜ from ≤ length (now table) ⌝ }
-    ensures { λ _. ⌜ now (table .exit) ≡ take from (now (table .entry)) ++ replicate (length (now (table .entry)) - from) 0 ⌝ }
+    ensures { λ _. ⌜ now (table .exit) ≡ take from (now (table .entry)) ++ replicate
+        (length (now (table .entry)) - from) 0 ⌝ }
 {
     let mut i = from;
     while i < table.len() {
@@ -134,8 +135,10 @@ fn take_over(
     relays: &mut [u32],
     tablets: &mut [u32],
 ) -> bool
-    requires { ⌜ (known scheme ≡ true) × Room (now bytes) n m (now «own_relays») (now «own_tablets») (now relays) (now tablets) ⌝ }
-    ensures { λ r. ⌜ TakenOver (now (bytes .entry)) scheme n m (now (relays .entry)) (now (tablets .entry)) (now (relays .exit)) (now (tablets .exit)) r ⌝ }
+    requires { ⌜ (known scheme ≡ true) × Room (now bytes) n m (now «own_relays») (now «own_tablets») (now relays)
+        (now tablets) ⌝ }
+    ensures { λ r. ⌜ TakenOver (now (bytes .entry)) scheme n m (now (relays .entry)) (now (tablets .entry))
+        (now (relays .exit)) (now (tablets .exit)) r ⌝ }
 {
     layout::entries(bytes, 0, n, own_relays);
     layout::entries(bytes, layout::ENTRY_BYTES * n, m, own_tablets);

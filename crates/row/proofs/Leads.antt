@@ -24,7 +24,8 @@ pub record Emptied (keys room : List ℕ) (k : ℕ) : Type 0 where
 pub emptied-none : (keys room : List ℕ) → Emptied keys room 0
 emptied-none keys room = record { none = λ l p. absurd (not-suc-le-zero p) }
 
-pub emptied-more : {keys room : List ℕ} {k : ℕ} → Emptied keys room k → slotRoom keys room k ≤ 0 → Emptied keys room (k + 1)
+pub emptied-more : {keys room : List ℕ} {k : ℕ} → Emptied keys room k → slotRoom keys room k ≤ 0
+    → Emptied keys room (k + 1)
 emptied-more e z = record { none = below-more _ _ (e .none) z }
 
 module _ {keys room : List ℕ} {n : ℕ} where
@@ -52,7 +53,8 @@ module _ {keys room : List ℕ} {n : ℕ} where
 
   -- slot k has none: as from the next
   pub leads-on : {k q : ℕ} → slotRoom keys room k ≤ 0 → Leads keys room n (k + 1) q → Leads keys room n k q
-  leads-on {k} {q} z o = record { inside = o .inside; opens = o .opens; ahead = λ l p w. go l w (o .ahead l p w) (eq-or-ne l k) }
+  leads-on {k} {q} z o =
+      record { inside = o .inside; opens = o .opens; ahead = λ l p w. go l w (o .ahead l p w) (eq-or-ne l k) }
     where
       go : (l : ℕ) → 0 < slotRoom keys room l → Ahead (k + 1) q l → (l ≡ k) ⊎ (l ≡ k → ⊥) → Ahead k q l
       go l w a (inl e) = absurd (omega (arith, ap (slotRoom keys room) e))
@@ -67,23 +69,27 @@ module _ {keys room : List ℕ} {n : ℕ} where
       → Row keys room n n (set next (n % mostRelays) q)
   row-start next {q} p e o = record {
     size = simp length-set e;
-    leads = λ h a b d. stored (Leads keys room n) next (n % mostRelays) (omega arith) (at (omega arith)) h (λ x. absurd (x (omega arith)));
+    leads = λ h a b d. stored (Leads keys room n) next (n % mostRelays) (omega arith) (at (omega arith)) h
+        (λ x. absurd (x (omega arith)));
   }
     where
       at : n < mostRelays → Leads keys room n (n % mostRelays) q
       at d = let z : n % mostRelays ≡ n = omega arith in rw z o
 
-  pub row-more : {next : List ℕ} {k q : ℕ} (j : ℕ) → j + 1 ≡ k → j < mostRelays → Row keys room n k next → Leads keys room n j q
+  pub row-more : {next : List ℕ} {k q : ℕ} (j : ℕ) → j + 1 ≡ k → j < mostRelays → Row keys room n k next
+      → Leads keys room n j q
       → Row keys room n j (set next j q)
   row-more {next} j e p x o = record {
     size = simp length-set (x .size);
-    leads = λ h a b d. stored (Leads keys room n) next j (omega (arith, x .size)) o h (λ y. x .leads h (omega arith) b d);
+    leads = λ h a b d. stored (Leads keys room n) next j (omega (arith, x .size)) o h
+        (λ y. x .leads h (omega arith) b d);
   }
 
   pub row-end : {next : List ℕ} {k : ℕ} → k ≤ 0 → Row keys room n k next → Row keys room n 0 next
   row-end p x = record { size = x .size; leads = λ h a b d. x .leads h (omega arith) b d }
 
-  pub leads-at : {next : List ℕ} (h : ℕ) → n ≤ mostRelays → h ≤ n → Row keys room n 0 next → Leads keys room n h (getD next (h % mostRelays) 0)
+  pub leads-at : {next : List ℕ} (h : ℕ) → n ≤ mostRelays → h ≤ n → Row keys room n 0 next
+      → Leads keys room n h (getD next (h % mostRelays) 0)
   leads-at {next} h p q x = go (decLt h mostRelays)
     where
       round : {k l : ℕ} → l < mostRelays → Ahead 0 k l → Ahead mostRelays k l

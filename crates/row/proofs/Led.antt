@@ -26,7 +26,8 @@ module _ (q to i : ℕ) (hq : q < 2 ^ 32) (ht : to < 2 ^ 32) where
   unfolding keyFrom clockwise
   key-round h = let d : (to + (2 ^ 32 - q)) % 2 ^ 32 ≡ to + 2 ^ 32 - q = omega arith in rw d (omega arith)
 
-module _ {position keys : List ℕ} {n q h : ℕ} (o : Ordered position n keys) (hn : n ≤ mostRelays) (hq : q < 2 ^ 32) (b : Home keys n (keyAt q) h) where
+module _ {position keys : List ℕ} {n q h : ℕ} (o : Ordered position n keys) (hn : n ≤ mostRelays) (hq : q < 2 ^ 32)
+    (b : Home keys n (keyAt q) h) where
   -- the key, for a tablet at q, of the relay at slot l
   unfoldable pub keyOf : ℕ → ℕ
   keyOf l = keyFrom q (getD position (slotRelay keys l) 0) (slotRelay keys l)
@@ -60,7 +61,11 @@ module _ {position keys : List ℕ} {n q h : ℕ} (o : Ordered position n keys) 
   nearer k l c d (past a e) = omega (arith, round k c (omega arith), round l d e, rising-le (o .rises) k l a d)
 
   below-nobody : (l : ℕ) → l < n → keyOf l ≤ nobody
-  below-nobody l c = elim (decLt l h) [ yes d ↦ omega (arith, round l c d, b .begins .passed l d) | no d ↦ omega (arith, onward l c (omega arith), small l c) ]
+  below-nobody l c =
+      elim (decLt l h) [
+        | yes d ↦ omega (arith, round l c d, b .begins .passed l d)
+        | no d ↦ omega (arith, onward l c (omega arith), small l c)
+      ]
 
   module _ {room : List ℕ} {k : ℕ} (f : Leads keys room n h k) where
     -- a relay with room is no nearer than the one that the slot leads to
@@ -70,8 +75,14 @@ module _ {position keys : List ℕ} {n q h : ℕ} (o : Ordered position n keys) 
     other z i c (yes d) =
         let s = o .holds .every i c in
         let w : 0 < slotRoom keys room (s .slot) = rw (s .is) d in
-        let e : keyOf (s .slot) ≡ keyFrom q (getD position i 0) i = ap (λ (x : ℕ). keyFrom q (getD position x 0) x) (s .is) in
-        omega (arith, key-open position room q i d, nearer k (s .slot) (f .inside z) (s .below) (f .ahead (s .slot) (s .below) w))
+        let e : keyOf (s .slot) ≡ keyFrom q (getD position i 0) i = ap (λ (x : ℕ). keyFrom q (getD position x 0) x)
+        (s .is) in
+        omega (
+          arith,
+          key-open position room q i d,
+          nearer k (s .slot) (f .inside z) (s .below)
+              (f .ahead (s .slot) (s .below) w),
+        )
 
     pub led : 0 < n → 0 < slotRoom keys room k → slotRelay keys k ≡ firstWithRoom position room q n
     unfolding slotRoom keyOf firstWithRoom keyFrom
@@ -79,7 +90,13 @@ module _ {position keys : List ℕ} {n q h : ℕ} (o : Ordered position n keys) 
         let i = slotRelay keys k in
         let c = o .holds .relay k (f .inside z) in
         let e : leastKey position room q n ≡ keyOf k =
-        omega (arith, least-low position room q n i c, key-open position room q i w, least-high position room q n (keyOf k) (below-nobody k (f .inside z)) (λ l d. other z l d (decLt 0 (getD room l 0)))) in
+        omega (
+          arith,
+          least-low position room q n i c,
+          key-open position room q i w,
+          least-high position room q n
+              (keyOf k) (below-nobody k (f .inside z)) (λ l d. other z l d (decLt 0 (getD room l 0))),
+        ) in
         rw e (index i (omega arith))
       where
         index : (i : ℕ) → i < mostRelays → i ≡ keyFrom q (getD position i 0) i % 2 ^ 32
@@ -90,7 +107,12 @@ module _ {position keys : List ℕ} {n q h : ℕ} (o : Ordered position n keys) 
     unfolding slotRoom firstWithRoom
     led-none z =
         let e : leastKey position room q n ≡ nobody =
-        omega (arith, least-top position room q n, least-high position room q n nobody (omega arith) (λ i c. omega (arith, key-shut position room q i (shut i c (decLt 0 (getD room i 0)))))) in
+        omega (
+          arith,
+          least-top position room q n,
+          least-high position room q n nobody (omega arith)
+              (λ i c. omega (arith, key-shut position room q i (shut i c (decLt 0 (getD room i 0))))),
+        ) in
         rw e
       where
         shut : (i : ℕ) → i < n → Dec (0 < getD room i 0) → getD room i 0 ≤ 0

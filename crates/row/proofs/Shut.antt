@@ -24,16 +24,19 @@ use Rattle.row.proofs.Leads.{leads-at}
 pub redirected-none : (k t : ℕ) (a : List ℕ) → Redirected 0 k t a a
 redirected-none k t a = record { size = refl; done = λ h p. absurd (not-suc-le-zero p); rest = λ h p. refl }
 
-pub redirected-more : {i k t : ℕ} {a b : List ℕ} (v : ℕ) → Redirected i k t a b → i < length b → v ≡ cond (eqb (getD b i 0) k) t (getD b i 0)
+pub redirected-more : {i k t : ℕ} {a b : List ℕ} (v : ℕ) → Redirected i k t a b → i < length b
+    → v ≡ cond (eqb (getD b i 0) k) t (getD b i 0)
     → Redirected (i + 1) k t a (set b i v)
 redirected-more {i} {k} {t} {a} {b} v r p e = record {
   size = simp length-set (r .size);
-  done = λ h q. stored (λ h x. x ≡ cond (eqb (getD a h 0) k) t (getD a h 0)) b i p (e ∙ rw (r .rest i (omega arith))) h (λ w. r .done h (omega arith));
+  done = λ h q. stored (λ h x. x ≡ cond (eqb (getD a h 0) k) t (getD a h 0)) b i p (e ∙ rw (r .rest i (omega arith))) h
+      (λ w. r .done h (omega arith));
   rest = λ h q. getD-set-other b i h v 0 (λ w. omega arith) ∙ r .rest h (omega arith);
 }
 
 pub redirected-end : {i m k t : ℕ} {a b : List ℕ} → i ≤ m → m ≤ i → Redirected i k t a b → Redirected m k t a b
-redirected-end p q r = record { size = r .size; done = λ h w. r .done h (omega arith); rest = λ h w. r .rest h (omega arith) }
+redirected-end p q r =
+    record { size = r .size; done = λ h w. r .done h (omega arith); rest = λ h w. r .rest h (omega arith) }
 
 -- ---- clockwise
 
@@ -61,7 +64,8 @@ last d (past a b) e = d (omega arith)
 
 -- ---- one more is placed at slot k
 
-module _ {keys room after next : List ℕ} {n k : ℕ} (z : Takes keys room next n k) (less : after ≡ roomLess room (slotRelay keys k)) where
+module _ {keys room after next : List ℕ} {n k : ℕ} (z : Takes keys room next n k)
+    (less : after ≡ roomLess room (slotRelay keys k)) where
   open-before : (l : ℕ) → 0 < slotRoom keys (roomLess room (slotRelay keys k)) l → 0 < slotRoom keys room l
   unfolding slotRoom
   open-before l w = less-open room (slotRelay keys k) (slotRelay keys l) w
@@ -79,19 +83,24 @@ module _ {keys room after next : List ℕ} {n k : ℕ} (z : Takes keys room next
   })
 
   -- it is full: whoever was led to its slot is led on
-  module _ {t : ℕ} {row : List ℕ} (p : slotRoom keys room k ≡ 1) (et : t ≡ getD next ((k + 1) % mostRelays) 0) (r : Redirected mostRelays k t next row) where
+  module _ {t : ℕ} {row : List ℕ} (p : slotRoom keys room k ≡ 1) (et : t ≡ getD next ((k + 1) % mostRelays) 0)
+      (r : Redirected mostRelays k t next row) where
     not-k : (l : ℕ) → 0 < slotRoom keys (roomLess room (slotRelay keys k)) l → l ≡ k → ⊥
     unfolding slotRoom
-    not-k l w e = omega (arith, less-here room (slotRelay keys k), ap (slotRoom keys (roomLess room (slotRelay keys k))) e)
+    not-k l w e =
+        omega (arith, less-here room (slotRelay keys k), ap (slotRoom keys (roomLess room (slotRelay keys k))) e)
 
-    open-after : (l : ℕ) → l < n → (l ≡ k → ⊥) → 0 < slotRoom keys room l → 0 < slotRoom keys (roomLess room (slotRelay keys k)) l
+    open-after : (l : ℕ) → l < n → (l ≡ k → ⊥) → 0 < slotRoom keys room l
+        → 0 < slotRoom keys (roomLess room (slotRelay keys k)) l
     unfolding slotRoom
-    open-after l q d w = rw (less-other room (slotRelay keys k) (slotRelay keys l) (λ e. d (z .apart .one l k q (z .inside) e))) w
+    open-after l q d w =
+        rw (less-other room (slotRelay keys k) (slotRelay keys l) (λ e. d (z .apart .one l k q (z .inside) e))) w
 
     from-next : Leads keys room n (k + 1) t
     from-next = rw et (leads-at (k + 1) (z .few) (omega (arith, z .inside)) (z .row))
 
-    shut : (h : ℕ) → h < mostRelays → Leads keys room n h (getD next h 0) → (getD next h 0 ≡ k) ⊎ (getD next h 0 ≡ k → ⊥)
+    shut : (h : ℕ) → h < mostRelays → Leads keys room n h (getD next h 0)
+        → (getD next h 0 ≡ k) ⊎ (getD next h 0 ≡ k → ⊥)
         → Leads keys (roomLess room (slotRelay keys k)) n h (getD row h 0)
     shut h b o (inr d) =
         let e : getD row h 0 ≡ getD next h 0 = r .done h b ∙ rw (ne-eqb _ _ d) in
@@ -106,9 +115,16 @@ module _ {keys room after next : List ℕ} {n k : ℕ} (z : Takes keys room next
         let g : Leads keys room n h k = subst (Leads keys room n h) d o in
         rw e (record {
           inside = f .inside;
-          opens = λ l q w. open-after t (f .inside (omega arith)) (last (not-k l w) (f .ahead l q (open-before l w))) (f .opens l q (open-before l w));
-          ahead = λ l q w. skip (not-k l w) (g .ahead l q (open-before l w)) (g .ahead t (f .inside (omega arith)) (f .opens l q (open-before l w))) (f .ahead l q (open-before l w));
+          opens = λ l q w. open-after t (f .inside (omega arith)) (last (not-k l w) (f .ahead l q (open-before l w)))
+              (f .opens l q (open-before l w));
+          ahead = λ l q w. skip (not-k l w) (g .ahead l q (open-before l w))
+              (g .ahead t (f .inside (omega arith)) (f .opens l q (open-before l w))) (f .ahead l q (open-before l w));
         })
 
     pub row-shut : Row keys after n 0 row
-    row-shut = rw less (record { size = r .size ∙ z .row .size; leads = λ h a b d. shut h d (z .row .leads h a b d) (eq-or-ne (getD next h 0) k) })
+    row-shut =
+        rw less (record {
+          size = r .size ∙ z .row .size;
+          leads = λ h a b d. shut h d (z .row .leads h a b d)
+              (eq-or-ne (getD next h 0) k);
+        })

@@ -111,7 +111,8 @@ pub fn take(
     k: usize,
 )
     requires { ⌜ Takes (now keys) (now room) (now next) n k ⌝ }
-    ensures { λ r. ⌜ (now (room .exit) ≡ roomLess (now (room .entry)) (slotRelay (now (keys .entry)) k)) × Row (now (keys .entry)) (now (room .exit)) n 0 (now (next .exit)) ⌝ }
+    ensures { λ r. ⌜ (now (room .exit) ≡ roomLess (now (room .entry)) (slotRelay (now (keys .entry)) k))
+        × Row (now (keys .entry)) (now (room .exit)) n 0 (now (next .exit)) ⌝ }
 {
     let i = order::slot_relay(keys, k);
     let left = room[i] - 1;

@@ -19,7 +19,9 @@ use Rattle.ring.specs.Scheme.{Positions}
 use Rattle.ring.specs.Clockwise.{key}
 use Rattle.ring.proofs.Tests.{split, and-left, and-right, true-false}
 use Rattle.rule.specs.declared.Refusal.{Refusal}
-use Rattle.rule.specs.declared.Refusal.the-variants.{SchemeUnknown, TablesNotRight, NumberZero, TooLarge, NotThere, ThereAlready, NoUnusedPlace, LimitsTooSmall, MoveListTooShort}
+use Rattle.rule.specs.declared.Refusal.the-variants.{SchemeUnknown, TablesNotRight, NumberZero, TooLarge}
+use Rattle.rule.specs.declared.Refusal.the-variants.{NotThere, ThereAlready, NoUnusedPlace, LimitsTooSmall}
+use Rattle.rule.specs.declared.Refusal.the-variants.{MoveListTooShort}
 use Rattle.rule.specs.declared.Call.{Call}
 use Rattle.rule.specs.declared.Call.the-variants.{Add, Remove, Set, Enrol, Withdraw, Find}
 use Rattle.rule.specs.Entry.{Entry, numbers, has, insert, delete, put, total}
@@ -40,13 +42,15 @@ use Rattle.rule.proofs.Demand3.{in-has}
 -- ---- refusals one by one
 
 -- a refusal that is none of the first: it does not apply, and the rest decide
-pub bar-passed : (b : Bool) (r : Refusal) (bs : List Bar) → isDone r ≡ false → isDone (firstBar (bar b r ∷ bs)) ≡ true → (b ≡ false) × (isDone (firstBar bs) ≡ true)
+pub bar-passed : (b : Bool) (r : Refusal) (bs : List Bar) → isDone r ≡ false → isDone (firstBar (bar b r ∷ bs)) ≡ true
+    → (b ≡ false) × (isDone (firstBar bs) ≡ true)
 unfolding firstBar
 bar-passed true r bs n h = absurd (true-false (sym h ∙ n))
 bar-passed false r bs n h = (refl, h)
 
 -- one that is another chain's
-chain-passed : (r : Refusal) (bs : List Bar) → isDone (firstBar (bar (not (isDone r)) r ∷ bs)) ≡ true → (isDone r ≡ true) × (isDone (firstBar bs) ≡ true)
+chain-passed : (r : Refusal) (bs : List Bar) → isDone (firstBar (bar (not (isDone r)) r ∷ bs)) ≡ true
+    → (isDone r ≡ true) × (isDone (firstBar bs) ≡ true)
 unfolding firstBar
 chain-passed r bs h =
     split (isDone r)
@@ -69,10 +73,14 @@ module _ (p : Positions) (m : Lent) (g : Ring) (c : Call) where
   pub accepted-is : isDone (refusal p m g c) ≡ true → Accepted p m g c
   unfolding refusal isDone
   accepted-is h =
-      let h₁ : (not (m .known) ≡ false) × (isDone (firstBar bars₂) ≡ true) = bar-passed (not (m .known)) SchemeUnknown bars₂ refl h in
-      let h₂ : (not (m .fit && right p g) ≡ false) × (isDone (firstBar bars₃) ≡ true) = bar-passed (not (m .fit && right p g)) TablesNotRight bars₃ refl (h₁ .1) in
-      let h₃ : (isDone (firstBar (wrongNumbers m g c)) ≡ true) × (isDone (firstBar bars₄) ≡ true) = chain-passed (firstBar (wrongNumbers m g c)) bars₄ (h₂ .1) in
-      let h₄ : (ltb (total (edited g c .relays)) (length (edited g c .tablets)) ≡ false) × (isDone (firstBar bars₅) ≡ true) =
+      let h₁ : (not (m .known) ≡ false) × (isDone (firstBar bars₂) ≡ true) = bar-passed
+      (not (m .known)) SchemeUnknown bars₂ refl h in
+      let h₂ : (not (m .fit && right p g) ≡ false) × (isDone (firstBar bars₃) ≡ true) = bar-passed
+      (not (m .fit && right p g)) TablesNotRight bars₃ refl (h₁ .1) in
+      let h₃ : (isDone (firstBar (wrongNumbers m g c)) ≡ true) × (isDone (firstBar bars₄) ≡ true) = chain-passed
+      (firstBar (wrongNumbers m g c)) bars₄ (h₂ .1) in
+      let h₄ : (ltb (total (edited g c .relays)) (length (edited g c .tablets)) ≡ false)
+      × (isDone (firstBar bars₅) ≡ true) =
       bar-passed (ltb (total (edited g c .relays)) (length (edited g c .tablets))) LimitsTooSmall bars₅ refl (h₃ .1) in
       let h₅ : (ltb (m .movePlaces) (length (moves p g c)) ≡ false) × (isDone (firstBar []) ≡ true) =
       bar-passed (ltb (m .movePlaces) (length (moves p g c))) MoveListTooShort [] refl (h₄ .1) in
@@ -111,11 +119,13 @@ table-insert n v es t h s out =
     (λ q i. ⊎-elim (λ (e : q ≡ n). omega arith) (λ j. in-small es (t .small) q j) (in-insert n v es q i))
 
 table-delete : (n : ℕ) (es : List Entry) → Table es → Table (delete n es)
-table-delete n es t = table-of (delete n es) (rising-delete n es 0 (t .up)) (λ q i. in-small es (t .small) q (in-delete n es q i))
+table-delete n es t =
+    table-of (delete n es) (rising-delete n es 0 (t .up)) (λ q i. in-small es (t .small) q (in-delete n es q i))
 
 table-put : (n v : ℕ) (es : List Entry) → Table es → Table (put n v es)
 table-put n v es t =
-    table-of (put n v es) (rw (numbers-put n v es) (t .up)) (λ q i. in-small es (t .small) q (rw (numbers-put n v es) at i))
+    table-of (put n v es) (rw (numbers-put n v es) (t .up))
+    (λ q i. in-small es (t .small) q (rw (numbers-put n v es) at i))
 
 limits-insert : (n v : ℕ) (es : List Entry) → v ≤ mostLimit → limitsFit es ≡ true → limitsFit (insert n v es) ≡ true
 unfolding limitsFit insert
@@ -155,27 +165,36 @@ pub record Edited (g : Ring) (c : Call) : Type 0 where
 positive : (n : ℕ) → eqb n 0 ≡ false → 0 < n
 positive n e = let z : n ≡ 0 → ⊥ = eqb-false n 0 e in omega arith
 
-pub edited-tables : (p : Positions) (m : Lent) (g : Ring) (c : Call) → Right p g → isDone (firstBar (wrongNumbers m g c)) ≡ true → subject c < 2 ^ 32 → Edited g c
+pub edited-tables : (p : Positions) (m : Lent) (g : Ring) (c : Call) → Right p g
+    → isDone (firstBar (wrongNumbers m g c)) ≡ true → subject c < 2 ^ 32 → Edited g c
 unfolding wrongNumbers isDone subject edited
 edited-tables p m g (Add r l) ok h s =
     let b₄ : List Bar = bar (leb (m .relayPlaces) (length (g .relays))) NoUnusedPlace ∷ [] in
     let b₃ : List Bar = bar (has (g .relays) (r .0)) ThereAlready ∷ b₄ in
     let b₂ : List Bar = bar (ltb mostLimit l) TooLarge ∷ b₃ in
     let h₁ : (eqb (r .0) 0 ≡ false) × (isDone (firstBar b₂) ≡ true) = bar-passed (eqb (r .0) 0) NumberZero b₂ refl h in
-    let h₂ : (ltb mostLimit l ≡ false) × (isDone (firstBar b₃) ≡ true) = bar-passed (ltb mostLimit l) TooLarge b₃ refl (h₁ .1) in
-    let h₃ : (has (g .relays) (r .0) ≡ false) × (isDone (firstBar b₄) ≡ true) = bar-passed (has (g .relays) (r .0)) ThereAlready b₄ refl (h₂ .1) in
+    let h₂ : (ltb mostLimit l ≡ false) × (isDone (firstBar b₃) ≡ true) = bar-passed (ltb mostLimit l) TooLarge b₃ refl
+    (h₁ .1) in
+    let h₃ : (has (g .relays) (r .0) ≡ false) × (isDone (firstBar b₄) ≡ true) = bar-passed
+    (has (g .relays) (r .0)) ThereAlready b₄ refl (h₂ .1) in
     record {
       relays = table-insert (r .0) l (g .relays) (ok .relays) (positive (r .0) (h₁ .0)) s (h₃ .0);
       limits = limits-insert (r .0) l (g .relays) (ltb-false mostLimit l (h₂ .0)) (ok .limits);
       tablets = ok .tablets;
     }
 edited-tables p m g (Remove r) ok h s =
-    record { relays = table-delete (r .0) (g .relays) (ok .relays); limits = limits-delete (r .0) (g .relays) (ok .limits); tablets = ok .tablets }
+    record {
+      relays = table-delete (r .0) (g .relays) (ok .relays);
+      limits = limits-delete (r .0) (g .relays)
+          (ok .limits);
+      tablets = ok .tablets;
+    }
 edited-tables p m g (Set r l) ok h s =
     let b₃ : List Bar = bar (not (has (g .relays) (r .0))) NotThere ∷ [] in
     let b₂ : List Bar = bar (ltb mostLimit l) TooLarge ∷ b₃ in
     let h₁ : (eqb (r .0) 0 ≡ false) × (isDone (firstBar b₂) ≡ true) = bar-passed (eqb (r .0) 0) NumberZero b₂ refl h in
-    let h₂ : (ltb mostLimit l ≡ false) × (isDone (firstBar b₃) ≡ true) = bar-passed (ltb mostLimit l) TooLarge b₃ refl (h₁ .1) in
+    let h₂ : (ltb mostLimit l ≡ false) × (isDone (firstBar b₃) ≡ true) = bar-passed (ltb mostLimit l) TooLarge b₃ refl
+    (h₁ .1) in
     record {
       relays = table-put (r .0) l (g .relays) (ok .relays);
       limits = limits-put (r .0) l (g .relays) (ltb-false mostLimit l (h₂ .0)) (ok .limits);
@@ -185,7 +204,8 @@ edited-tables p m g (Enrol t) ok h s =
     let b₃ : List Bar = bar (leb (m .tabletPlaces) (length (g .tablets))) NoUnusedPlace ∷ [] in
     let b₂ : List Bar = bar (has (g .tablets) (t .0)) ThereAlready ∷ b₃ in
     let h₁ : (eqb (t .0) 0 ≡ false) × (isDone (firstBar b₂) ≡ true) = bar-passed (eqb (t .0) 0) NumberZero b₂ refl h in
-    let h₂ : (has (g .tablets) (t .0) ≡ false) × (isDone (firstBar b₃) ≡ true) = bar-passed (has (g .tablets) (t .0)) ThereAlready b₃ refl (h₁ .1) in
+    let h₂ : (has (g .tablets) (t .0) ≡ false) × (isDone (firstBar b₃) ≡ true) = bar-passed
+    (has (g .tablets) (t .0)) ThereAlready b₃ refl (h₁ .1) in
     record {
       relays = ok .relays;
       limits = ok .limits;
@@ -198,12 +218,16 @@ edited-tables p m g (Find t) ok h s = record { relays = ok .relays; limits = ok 
 -- ---- the tables afterwards
 
 -- the rule's tables where the edited relays take the edited tablets
-pub after-is : (p : Positions) (g : Ring) (c : Call) → Table (edited g c .relays) → length (edited g c .tablets) ≤ total (edited g c .relays)
+pub after-is : (p : Positions) (g : Ring) (c : Call) → Table (edited g c .relays) → length (edited g c .tablets) ≤ total
+    (edited g c .relays)
     → after p g c .tablets ≡ fill (key p) (edited g c .relays) (numbers (edited g c .tablets))
 unfolding after orNobody
-after-is p g c t h = rw (placement-fill p (edited g c .relays) 0 (t .up) (t .small) (numbers (edited g c .tablets)) (omega (arith, length-numbers (edited g c .tablets))))
+after-is p g c t h =
+    rw (placement-fill p (edited g c .relays) 0 (t .up) (t .small) (numbers (edited g c .tablets))
+    (omega (arith, length-numbers (edited g c .tablets))))
 
-module _ (p : Positions) (g : Ring) (c : Call) (e : Edited g c) (enough : length (edited g c .tablets) ≤ total (edited g c .relays)) where
+module _ (p : Positions) (g : Ring) (c : Call) (e : Edited g c)
+    (enough : length (edited g c .tablets) ≤ total (edited g c .relays)) where
   pub after-fill : after p g c .tablets ≡ fill (key p) (edited g c .relays) (numbers (edited g c .tablets))
   after-fill = after-is p g c (e .relays) enough
 
@@ -211,7 +235,8 @@ module _ (p : Positions) (g : Ring) (c : Call) (e : Edited g c) (enough : length
   after-sets = ap numbers after-fill ∙ numbers-fill (key p) (numbers (edited g c .tablets)) (edited g c .relays)
 
   pub after-length : length (after p g c .tablets) ≡ length (edited g c .tablets)
-  after-length = sym (length-numbers (after p g c .tablets)) ∙ ap length after-sets ∙ length-numbers (edited g c .tablets)
+  after-length =
+      sym (length-numbers (after p g c .tablets)) ∙ ap length after-sets ∙ length-numbers (edited g c .tablets)
 
   pub after-right : Right p (after p g c)
   unfolding after
@@ -219,7 +244,8 @@ module _ (p : Positions) (g : Ring) (c : Call) (e : Edited g c) (enough : length
       record {
         relays = e .relays;
         limits = e .limits;
-        tablets = table-of (after p g c .tablets) (rw after-sets (e .tablets .up)) (λ n i. in-small (edited g c .tablets) (e .tablets .small) n (rw after-sets at i));
+        tablets = table-of (after p g c .tablets) (rw after-sets (e .tablets .up))
+            (λ n i. in-small (edited g c .tablets) (e .tablets .small) n (rw after-sets at i));
         enough = omega (arith, after-length);
         ruled = after-fill ∙ ap (fill (key p) (edited g c .relays)) (sym after-sets);
       }
@@ -241,5 +267,6 @@ module _ (p : Positions) (m : Lent) (g : Ring) (c : Call) where
   outcome-right s r =
       split (isDone (refusal p m g c))
       (λ d. let a : Accepted p m g c = accepted-is p m g c d in
-      rw (outcome-accepted d) (right-from p (after p g c) (after-right p g c (edited-tables p m g c (right-is p g r) (a .numbers) s) (a .enough))))
+      rw (outcome-accepted d) (right-from p (after p g c)
+      (after-right p g c (edited-tables p m g c (right-is p g r) (a .numbers) s) (a .enough))))
       (λ d. rw (outcome-declined d) r)

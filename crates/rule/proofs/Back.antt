@@ -39,13 +39,16 @@ delete-numbers n (e ∷ es) (f ∷ fs) h =
     (λ s. rw (s, delete, rw a at s, delete) (λ i. a i ∷ delete-numbers n es fs b i))
 
 -- tablets that have these numbers again, on these relays, sit where they sat
-module _ (p : Positions) (m m′ : Lent) (g : Ring) (c d : Call) (done : isDone (refusal p m g c) ≡ true) (small : subject d < 2 ^ 32)
+module _ (p : Positions) (m m′ : Lent) (g : Ring) (c d : Call) (done : isDone (refusal p m g c) ≡ true)
+    (small : subject d < 2 ^ 32)
     (undone : isDone (refusal p m′ (after p g c) d) ≡ true) where
-  seated-again : edited (after p g c) d .relays ≡ g .relays → numbers (edited (after p g c) d .tablets) ≡ numbers (g .tablets) → after p (after p g c) d ≡ g
+  seated-again : edited (after p g c) d .relays ≡ g .relays → numbers (edited (after p g c) d .tablets)
+      ≡ numbers (g .tablets) → after p (after p g c) d ≡ g
   unfolding after
   seated-again rs ts =
       let e : after p (after p g c) d .tablets ≡ g .tablets =
-      after-fill p (after p g c) d (edit-is p m′ (after p g c) d undone small) (accepted-is p m′ (after p g c) d undone .enough)
+      after-fill p (after p g c) d (edit-is p m′ (after p g c) d undone small)
+      (accepted-is p m′ (after p g c) d undone .enough)
       ∙ ap (λ (l : List Entry). fill (key p) l (numbers (edited (after p g c) d .tablets))) rs
       ∙ ap (fill (key p) (g .relays)) ts
       ∙ sym (right-before p m g c done .ruled) in
@@ -61,11 +64,13 @@ module _ (p : Positions) (m m′ : Lent) (g : Ring) where
   unfolding subject edited
   enrol-withdraw t small done undone =
       seated-again p m m′ g (Enrol t) (Withdraw t) done small undone (unfold after in refl)
-      (delete-numbers (t .0) (after p g (Enrol t) .tablets) (insert (t .0) 0 (g .tablets)) (tablets-are p m g (Enrol t) done small)
+      (delete-numbers (t .0) (after p g (Enrol t) .tablets) (insert (t .0) 0 (g .tablets))
+      (tablets-are p m g (Enrol t) done small)
       ∙ ap numbers (gone (t .0) 0 (g .tablets) (told-is p m g (Enrol t) done)))
 
   pub add-remove : (r : RelayNumber) (l : ℕ) → r .0 < 2 ^ 32 → isDone (refusal p m g (Add r l)) ≡ true
       → isDone (refusal p m′ (after p g (Add r l)) (Remove r)) ≡ true → after p (after p g (Add r l)) (Remove r) ≡ g
   unfolding subject edited after
   add-remove r l small done undone =
-      seated-again p m m′ g (Add r l) (Remove r) done small undone (gone (r .0) l (g .relays) (told-is p m g (Add r l) done)) (tablets-are p m g (Add r l) done small)
+      seated-again p m m′ g (Add r l) (Remove r) done small undone
+      (gone (r .0) l (g .relays) (told-is p m g (Add r l) done)) (tablets-are p m g (Add r l) done small)

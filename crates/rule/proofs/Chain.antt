@@ -16,7 +16,8 @@ use Rattle.ring.proofs.Tests.{split}
 use Rattle.rule.specs.Entry.{Entry, numbers, insert, delete, load}
 use Rattle.rule.specs.Rooms.{held}
 use Rattle.rule.specs.Stability.{Rising, lower, Sits, Fair, Stable}
-use Rattle.rule.proofs.Counts.{at, at-other, at-not, at-le, at-one, lower-insert, lower-delete, lower-load, lower-load-one, lower-between, sits-insert, sits-delete, sits-deleted}
+use Rattle.rule.proofs.Counts.{at, at-other, at-not, at-le, at-one, lower-insert, lower-delete, lower-load}
+use Rattle.rule.proofs.Counts.{lower-load-one, lower-between, sits-insert, sits-delete, sits-deleted}
 
 -- relay r has a hole since w, as if w still sat there: everybody else is fair with w in
 abbrev pub Hole : (ℕ → ℕ → ℕ) → List Entry → List Entry → ℕ → ℕ → Type 0
@@ -38,7 +39,15 @@ module _ (key : ℕ → ℕ → ℕ) (rs p : List Entry) (low : ℕ) (up : Risin
       record {
         room = split (eqb c v)
             (λ s. let e : c ≡ v = eqb-true c v s in
-            omega (arith, lower-insert w c p v n, at-one c v w n, lower-load-one p v n n j (omega arith), ap (λ (x : ℕ). load p x) e, ap (λ (x : ℕ). held rs x) e))
+            omega (
+              arith,
+              lower-insert w c p v n,
+              at-one c v w n,
+              lower-load-one p v n n j (omega arith),
+              ap
+                  (λ (x : ℕ). load p x) e,
+              ap (λ (x : ℕ). held rs x) e,
+            ))
             (λ s. omega (arith, lower-insert w c p v n, at-other c v w n (eqb-false c v s), st n v j .room));
         least = λ q h. st n v j .least q (omega (arith, lower-insert w c p q n));
       })
@@ -52,8 +61,20 @@ module _ (key : ℕ → ℕ → ℕ) (rs p : List Entry) (low : ℕ) (up : Risin
       ⊎-elim
       (λ u. rw (← u .0, ← u .1)
       (record {
-        room = omega (arith, lower-insert w c d c w, at-not c c w w (omega arith), lower-delete g c p low up sg c w, f .room);
-        least = λ q h. f .least q (omega (arith, lower-insert w c d q w, lower-delete g c p low up sg q w, at-not c q g w (omega arith)));
+        room = omega (
+          arith,
+          lower-insert w c d c w,
+          at-not c c w w (omega arith),
+          lower-delete g c p low up sg c w,
+          f .room,
+        );
+        least = λ q h. f .least q (omega (
+          arith,
+          lower-insert w c d q w,
+          lower-delete g c p low up sg q w,
+          at-not c q g
+              w (omega arith),
+        ));
       }))
       (λ j′.
       let j : Sits p n v = sits-delete g p n v j′ in
@@ -63,10 +84,30 @@ module _ (key : ℕ → ℕ → ℕ) (rs p : List Entry) (low : ℕ) (up : Risin
             let jc : Sits p n c = rw e j in
             let ne : n ≡ g → ⊥ = sits-deleted g p low up n v j′ in
             let lt : n < g = omega (arith, top n jc) in
-            rw (← e) (omega (arith, lower-insert w c d c n, at-one c c w n, lower-delete g c p low up sg c n, lower-between p c n n g jc (omega arith) lt, st g c sg .room)))
-            (λ s. omega (arith, lower-insert w c d v n, at-other c v w n (eqb-false c v s), lower-delete g c p low up sg v n, st n v j .room));
+            rw (← e) (omega (
+              arith,
+              lower-insert w c d c n,
+              at-one c c w n,
+              lower-delete g c p low up sg c n,
+              lower-between p c n n g jc (omega arith) lt,
+              st g c sg .room,
+            )))
+            (λ s. omega (
+              arith,
+              lower-insert w c d v n,
+              at-other c v w n (eqb-false c v s),
+              lower-delete g c p low up sg
+                  v n,
+              st n v j .room,
+            ));
         least = λ q h. st n v j .least q
-            (omega (arith, lower-insert w c d q n, lower-delete g c p low up sg q n, at-le c q g n w n (λ (x : g < n). omega arith)));
+            (omega (
+              arith,
+              lower-insert w c d q n,
+              lower-delete g c p low up sg q n,
+              at-le c q g n w n
+                  (λ (x : g < n). omega arith),
+            ));
       })
       (sits-insert w c d n v i)
 
@@ -88,7 +129,13 @@ module _ (key : ℕ → ℕ → ℕ) (rs p : List Entry) (low : ℕ) (up : Risin
       split (ltb w s)
       (λ x. ltb-true w s x)
       (λ x. absurd (let z : key s v₀ ≤ key s r =
-      ho s v₀ sit .least r (omega (arith, lower-insert w r p r s, at-not r r w s (ltb-false w s x), lower-load p r s)) in omega arith))
+      ho s v₀ sit .least r (omega (
+        arith,
+        lower-insert w r p r s,
+        at-not r r w s
+            (ltb-false w s x),
+        lower-load p r s,
+      )) in omega arith))
 
   -- s is the lowest who passed r: s takes the hole, and leaves one at v₀
   pub refill : (w r s v₀ : ℕ) → Hole key rs p w r → load p r < held rs r → Sits p s v₀ → key s r < key s v₀
@@ -107,7 +154,11 @@ module _ (key : ℕ → ℕ → ℕ) (rs p : List Entry) (low : ℕ) (up : Risin
         room = omega (arith, cnt r s, at-not r r s s (omega arith), lower-load p r s);
         least = λ q h. split (eqb r q)
             (λ x. omega (arith, ap (key s) (eqb-true r q x)))
-            (λ x. omega (arith, ho s v₀ sit .least q (omega (arith, cnt q s, lower-insert w r p q s, at-other r q w s (eqb-false r q x)))));
+            (λ x. omega (
+              arith,
+              ho s v₀ sit .least q
+                  (omega (arith, cnt q s, lower-insert w r p q s, at-other r q w s (eqb-false r q x))),
+            ));
       }))
       (λ j′.
       let j : Sits p n v = sits-delete s p n v j′ in
@@ -116,7 +167,13 @@ module _ (key : ℕ → ℕ → ℕ) (rs p : List Entry) (low : ℕ) (up : Risin
       record {
         room = omega (arith, f .room, cnt v n, lower-insert w r p v n, at-le r v s n w n (λ (x : s < n). omega arith));
         least = λ q h. split (ltb s n)
-            (λ x. f .least q (omega (arith, cnt q n, lower-insert w r p q n, at-le r q w n s n (λ (y : w < n). ltb-true s n x))))
+            (λ x. f .least q (omega (
+              arith,
+              cnt q n,
+              lower-insert w r p q n,
+              at-le r q w n s n
+                  (λ (y : w < n). ltb-true s n x),
+            )))
             (λ x. split (eqb r q)
             (λ y. rw (← eqb-true r q y)
             (split (ltb (key n r) (key n v))

@@ -40,7 +40,8 @@ pub at-le : (r q m n m′ n′ : ℕ) → (m < n → m′ < n′) → at r q m n
 at-le r q m n m′ n′ h =
     split (ltb m n)
     (λ s. split (eqb r q)
-    (λ u. rw (at-yes r q m n (eqb-true r q u) (ltb-true m n s), at-yes r q m′ n′ (eqb-true r q u) (h (ltb-true m n s))) (omega arith))
+    (λ u. rw (at-yes r q m n (eqb-true r q u) (ltb-true m n s), at-yes r q m′ n′ (eqb-true r q u) (h (ltb-true m n s)))
+    (omega arith))
     (λ u. rw (at-other r q m n (eqb-false r q u)) (omega arith)))
     (λ s. rw (at-not r q m n (ltb-false m n s)) (omega arith))
 
@@ -64,20 +65,23 @@ lower-insert m r (e ∷ p) q n =
     (λ s. rw (s, insert))
     (λ s. rw (s, insert) (omega (arith, lower-insert m r p q n)))
 
-pub lower-delete : (m r : ℕ) (p : List Entry) (low : ℕ) → Rising low (numbers p) → Sits p m r → (q n : ℕ) → lower p q n ≡ at r q m n + lower (delete m p) q n
+pub lower-delete : (m r : ℕ) (p : List Entry) (low : ℕ) → Rising low (numbers p) → Sits p m r → (q n : ℕ) → lower p q n
+    ≡ at r q m n + lower (delete m p) q n
 unfolding delete lower at numbers
 lower-delete m r [] low up i q n = absurd i
 lower-delete m r (e ∷ p) low up (inl u) q n = rw (← u .0, ← u .1, eq-eqb (e .number) (e .number) refl, delete)
 lower-delete m r (e ∷ p) low up (inr i) q n =
     let h : e .number < m = sits-above p (e .number) m r (up .1) i in
-    rw (ne-eqb (e .number) m (λ (x : e .number ≡ m). omega arith), delete) (omega (arith, lower-delete m r p (e .number) (up .1) i q n))
+    rw (ne-eqb (e .number) m (λ (x : e .number ≡ m). omega arith), delete)
+    (omega (arith, lower-delete m r p (e .number) (up .1) i q n))
 
 pub lower-load : (p : List Entry) (q n : ℕ) → lower p q n ≤ load p q
 unfolding lower load count bit
 lower-load [] q n = omega arith
 lower-load (e ∷ p) q n =
     split (eqb (e .beside) q)
-    (λ s. rw s (split (ltb (e .number) n) (λ u. rw u (omega (arith, lower-load p q n))) (λ u. rw u (omega (arith, lower-load p q n)))))
+    (λ s. rw s (split (ltb (e .number) n) (λ u. rw u (omega (arith, lower-load p q n)))
+    (λ u. rw u (omega (arith, lower-load p q n)))))
     (λ s. rw s (omega (arith, lower-load p q n)))
 
 -- one who sits there, and is not below n, is counted by the load alone
@@ -88,22 +92,39 @@ lower-load-one (e ∷ p) q n m (inl u) h =
     rw (eq-eqb (e .beside) q (u .1), le-ltb (e .number) n (omega (arith, u .0))) (omega (arith, lower-load p q n))
 lower-load-one (e ∷ p) q n m (inr i) h =
     split (eqb (e .beside) q)
-    (λ s. rw s (split (ltb (e .number) n) (λ u. rw u (omega (arith, lower-load-one p q n m i h))) (λ u. rw u (omega (arith, lower-load-one p q n m i h)))))
+    (λ s. rw s (split (ltb (e .number) n) (λ u. rw u (omega (arith, lower-load-one p q n m i h)))
+    (λ u. rw u (omega (arith, lower-load-one p q n m i h)))))
     (λ s. rw s (omega (arith, lower-load-one p q n m i h)))
 
 pub lower-up : (p : List Entry) (q n k : ℕ) → n ≤ k → lower p q n ≤ lower p q k
 unfolding lower at
 lower-up [] q n k h = omega arith
-lower-up (e ∷ p) q n k h = omega (arith, lower-up p q n k h, at-le (e .beside) q (e .number) n (e .number) k (λ (x : e .number < n). omega arith))
+lower-up (e ∷ p) q n k h =
+    omega (
+      arith,
+      lower-up p q n k h,
+      at-le (e .beside) q (e .number) n (e .number) k
+          (λ (x : e .number < n). omega arith),
+    )
 
 -- one who sits there, between n and k
 pub lower-between : (p : List Entry) (q n m k : ℕ) → Sits p m q → n ≤ m → m < k → lower p q n + 1 ≤ lower p q k
 unfolding lower bit at
 lower-between [] q n m k i h l = absurd i
 lower-between (e ∷ p) q n m k (inl u) h l =
-    rw (eq-eqb (e .beside) q (u .1), le-ltb (e .number) n (omega (arith, u .0)), lt-ltb (e .number) k (omega (arith, u .0))) (omega (arith, lower-up p q n k (omega arith)))
+    rw (
+      eq-eqb (e .beside) q (u .1),
+      le-ltb (e .number) n (omega (arith, u .0)),
+      lt-ltb (e .number) k
+          (omega (arith, u .0)),
+    ) (omega (arith, lower-up p q n k (omega arith)))
 lower-between (e ∷ p) q n m k (inr i) h l =
-    omega (arith, lower-between p q n m k i h l, at-le (e .beside) q (e .number) n (e .number) k (λ (x : e .number < n). omega arith))
+    omega (
+      arith,
+      lower-between p q n m k i h l,
+      at-le (e .beside) q (e .number) n (e .number) k
+          (λ (x : e .number < n). omega arith),
+    )
 
 -- ---- who sits where
 
@@ -113,7 +134,8 @@ sits-insert m r [] n v = λ i. i
 sits-insert m r (e ∷ p) n v =
     split (ltb m (e .number))
     (λ s. rw (s, insert) (λ i. i))
-    (λ s. rw (s, insert) (λ i. ⊎-elim (λ u. inr (inl u)) (λ j. ⊎-elim (λ u. inl u) (λ w. inr (inr w)) (sits-insert m r p n v j)) i))
+    (λ s. rw (s, insert) (λ i. ⊎-elim (λ u. inr (inl u))
+    (λ j. ⊎-elim (λ u. inl u) (λ w. inr (inr w)) (sits-insert m r p n v j)) i))
 
 pub insert-sits : (m r : ℕ) (p : List Entry) (n v : ℕ) → ((m ≡ n) × (r ≡ v)) ⊎ Sits p n v → Sits (insert m r p) n v
 unfolding insert
@@ -121,7 +143,8 @@ insert-sits m r [] n v = λ i. i
 insert-sits m r (e ∷ p) n v =
     split (ltb m (e .number))
     (λ s. rw (s, insert) (λ i. i))
-    (λ s. rw (s, insert) (λ i. ⊎-elim (λ u. inr (insert-sits m r p n v (inl u))) (λ j. ⊎-elim (λ u. inl u) (λ w. inr (insert-sits m r p n v (inr w))) j) i))
+    (λ s. rw (s, insert) (λ i. ⊎-elim (λ u. inr (insert-sits m r p n v (inl u)))
+    (λ j. ⊎-elim (λ u. inl u) (λ w. inr (insert-sits m r p n v (inr w))) j) i))
 
 pub sits-delete : (m : ℕ) (p : List Entry) (n v : ℕ) → Sits (delete m p) n v → Sits p n v
 unfolding delete
@@ -139,13 +162,16 @@ delete-sits m (e ∷ p) n v =
     (λ s. rw (s, delete) (λ i d. ⊎-elim (λ u. absurd (d (sym (u .0) ∙ eqb-true (e .number) m s))) (λ j. j) i))
     (λ s. rw (s, delete) (λ i d. ⊎-elim (λ u. inl u) (λ j. inr (delete-sits m p n v j d)) i))
 
-pub sits-deleted : (m : ℕ) (p : List Entry) (low : ℕ) → Rising low (numbers p) → (n v : ℕ) → Sits (delete m p) n v → n ≡ m → ⊥
+pub sits-deleted : (m : ℕ) (p : List Entry) (low : ℕ) → Rising low (numbers p) → (n v : ℕ) → Sits (delete m p) n v
+    → n ≡ m → ⊥
 unfolding delete numbers
 sits-deleted m [] low up n v = λ i x. i
 sits-deleted m (e ∷ p) low up n v =
     split (eqb (e .number) m)
-    (λ s. rw (s, delete) (λ i x. let z : e .number < n = sits-above p (e .number) n v (up .1) i in omega (arith, eqb-true (e .number) m s)))
-    (λ s. rw (s, delete) (λ i x. ⊎-elim (λ u. eqb-false (e .number) m s (u .0 ∙ x)) (λ j. sits-deleted m p (e .number) (up .1) n v j x) i))
+    (λ s. rw (s, delete) (λ i x. let z : e .number < n = sits-above p (e .number) n v (up .1) i in omega
+    (arith, eqb-true (e .number) m s)))
+    (λ s. rw (s, delete) (λ i x. ⊎-elim (λ u. eqb-false (e .number) m s (u .0 ∙ x))
+    (λ j. sits-deleted m p (e .number) (up .1) n v j x) i))
 
 -- ---- how many meet a test
 
@@ -153,26 +179,31 @@ module _ (f : Entry → Bool) where
   pub count-insert : (m r : ℕ) (p : List Entry) → count f (insert m r p) ≡ cond (f (entry m r)) 1 0 + count f p
   unfolding count insert
   count-insert m r [] = refl
-  count-insert m r (e ∷ p) = split (ltb m (e .number)) (λ s. rw (s, insert)) (λ s. rw (s, insert) (omega (arith, count-insert m r p)))
+  count-insert m r (e ∷ p) =
+      split (ltb m (e .number)) (λ s. rw (s, insert)) (λ s. rw (s, insert) (omega (arith, count-insert m r p)))
 
-  pub count-delete : (m r : ℕ) (p : List Entry) (low : ℕ) → Rising low (numbers p) → Sits p m r → count f p ≡ cond (f (entry m r)) 1 0 + count f (delete m p)
+  pub count-delete : (m r : ℕ) (p : List Entry) (low : ℕ) → Rising low (numbers p) → Sits p m r → count f p
+      ≡ cond (f (entry m r)) 1 0 + count f (delete m p)
   unfolding count delete numbers
   count-delete m r [] low up i = absurd i
   count-delete m r (e ∷ p) low up (inl u) = rw (← u .0, ← u .1, eq-eqb (e .number) (e .number) refl, delete)
   count-delete m r (e ∷ p) low up (inr i) =
       let h : e .number < m = sits-above p (e .number) m r (up .1) i in
-      rw (ne-eqb (e .number) m (λ (x : e .number ≡ m). omega arith), delete) (omega (arith, count-delete m r p (e .number) (up .1) i))
+      rw (ne-eqb (e .number) m (λ (x : e .number ≡ m). omega arith), delete)
+      (omega (arith, count-delete m r p (e .number) (up .1) i))
 
   pub count-length : (p : List Entry) → count f p ≤ length p
   unfolding count
   count-length [] = omega arith
-  count-length (e ∷ p) = split (f e) (λ s. rw s (omega (arith, count-length p))) (λ s. rw s (omega (arith, count-length p)))
+  count-length (e ∷ p) =
+      split (f e) (λ s. rw s (omega (arith, count-length p))) (λ s. rw s (omega (arith, count-length p)))
 
 pub load-insert : (m r : ℕ) (p : List Entry) (q : ℕ) → load (insert m r p) q ≡ cond (eqb r q) 1 0 + load p q
 unfolding load
 load-insert m r p q = count-insert (λ e. eqb (e .beside) q) m r p
 
-pub load-delete : (m r : ℕ) (p : List Entry) (low : ℕ) → Rising low (numbers p) → Sits p m r → (q : ℕ) → load p q ≡ cond (eqb r q) 1 0 + load (delete m p) q
+pub load-delete : (m r : ℕ) (p : List Entry) (low : ℕ) → Rising low (numbers p) → Sits p m r → (q : ℕ)
+    → load p q ≡ cond (eqb r q) 1 0 + load (delete m p) q
 unfolding load
 load-delete m r p low up i q = count-delete (λ e. eqb (e .beside) q) m r p low up i
 
@@ -181,19 +212,22 @@ unfolding insert
 length-insert m r [] = refl
 length-insert m r (e ∷ p) = split (ltb m (e .number)) (λ s. rw (s, insert)) (λ s. rw (s, insert, length-insert m r p))
 
-pub length-delete : (m r : ℕ) (p : List Entry) (low : ℕ) → Rising low (numbers p) → Sits p m r → length p ≡ suc (length (delete m p))
+pub length-delete : (m r : ℕ) (p : List Entry) (low : ℕ) → Rising low (numbers p) → Sits p m r
+    → length p ≡ suc (length (delete m p))
 unfolding delete numbers
 length-delete m r [] low up i = absurd i
 length-delete m r (e ∷ p) low up (inl u) = rw (← u .0, eq-eqb (e .number) (e .number) refl, delete)
 length-delete m r (e ∷ p) low up (inr i) =
     let h : e .number < m = sits-above p (e .number) m r (up .1) i in
-    rw (ne-eqb (e .number) m (λ (x : e .number ≡ m). omega arith), delete) (ap suc (length-delete m r p (e .number) (up .1) i))
+    rw (ne-eqb (e .number) m (λ (x : e .number ≡ m). omega arith), delete)
+    (ap suc (length-delete m r p (e .number) (up .1) i))
 
 pub delete-length : (n : ℕ) (es : List Entry) → length (delete n es) ≤ length es
 unfolding delete
 delete-length n [] = omega arith
 delete-length n (e ∷ es) =
-    split (eqb (e .number) n) (λ s. rw (s, delete) (omega arith)) (λ s. rw (s, delete) (omega (arith, delete-length n es)))
+    split (eqb (e .number) n) (λ s. rw (s, delete) (omega arith))
+    (λ s. rw (s, delete) (omega (arith, delete-length n es)))
 
 -- ---- how many numbers are above n
 
@@ -209,7 +243,8 @@ above-down (e ∷ p) n k h =
     (λ s. rw s (omega (arith, above-down p n k h)))
 
 -- one who sits above w goes, and w or that one sits down instead: fewer are above that one than were above w
-pub above-fewer : (m r : ℕ) (p : List Entry) (low : ℕ) → Rising low (numbers p) → Sits p m r → (w t c : ℕ) → w < m → t ≤ m
+pub above-fewer : (m r : ℕ) (p : List Entry) (low : ℕ) → Rising low (numbers p) → Sits p m r → (w t c : ℕ) → w < m
+    → t ≤ m
     → above (insert t c (delete m p)) m < above p w
 unfolding above
 above-fewer m r p low up i w t c h l =

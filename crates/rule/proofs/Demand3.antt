@@ -28,7 +28,8 @@ use Rattle.rule.proofs.Right.{right-is, right-stable, held-small, lengt
 pub has-in : (es : List Entry) (n : ℕ) → has es n ≡ true → In n (numbers es)
 unfolding has numbers
 has-in [] n h = absurd (true-false (sym h))
-has-in (e ∷ es) n h = split (eqb (e .number) n) (λ s. inl (sym (eqb-true (e .number) n s))) (λ s. inr (has-in es n (rw s at h)))
+has-in (e ∷ es) n h =
+    split (eqb (e .number) n) (λ s. inl (sym (eqb-true (e .number) n s))) (λ s. inr (has-in es n (rw s at h)))
 
 pub in-has : (es : List Entry) (n : ℕ) → In n (numbers es) → has es n ≡ true
 unfolding has numbers
@@ -63,20 +64,24 @@ unfolding besideOf numbers
 sits-beside [] low n v up i = absurd i
 sits-beside (e ∷ es) low n v up i =
     split (eqb (e .number) n)
-    (λ s. rw s (⊎-elim (λ u. u .1) (λ j. absurd (omega (arith, sits-above es (e .number) n v (up .1) j, eqb-true (e .number) n s))) i))
-    (λ s. rw s (⊎-elim (λ u. absurd (eqb-false (e .number) n s (u .0))) (λ j. sits-beside es (e .number) n v (up .1) j) i))
+    (λ s. rw s (⊎-elim (λ u. u .1) (λ j. absurd
+    (omega (arith, sits-above es (e .number) n v (up .1) j, eqb-true (e .number) n s))) i))
+    (λ s. rw s (⊎-elim (λ u. absurd (eqb-false (e .number) n s (u .0))) (λ j. sits-beside es (e .number) n v (up .1) j)
+    i))
 
 -- ---- the demand
 
 -- a tablet's relay is a 32-bit number
-seated-small : (p : Positions) (g : Ring) → Right p g → (t : ℕ) → has (g .tablets) t ≡ true → besideOf (g .tablets) t < 2 ^ 32
+seated-small : (p : Positions) (g : Ring) → Right p g → (t : ℕ) → has (g .tablets) t ≡ true
+    → besideOf (g .tablets) t < 2 ^ 32
 seated-small p g r t h =
     held-small p (g .relays) (r .relays) (besideOf (g .tablets) t)
     (omega (arith, right-stable p g r t (besideOf (g .tablets) t) (has-sits (g .tablets) 0 t (r .tablets .up) h) .room))
 
 pub demand-3 : (p : Positions) (g₁ g₂ : Ring) → right p g₁ ≡ true → right p g₂ ≡ true → Roomier g₁ g₂
     → (t : ℕ) → has (g₂ .tablets) t ≡ true
-    → (besideOf (g₂ .tablets) t ≡ besideOf (g₁ .tablets) t) ⊎ (sooner p t (besideOf (g₂ .tablets) t) (besideOf (g₁ .tablets) t) ≡ true)
+    → (besideOf (g₂ .tablets) t ≡ besideOf (g₁ .tablets) t) ⊎
+    (sooner p t (besideOf (g₂ .tablets) t) (besideOf (g₁ .tablets) t) ≡ true)
 demand-3 p g₁ g₂ t₁ t₂ more t h =
     let r₁ : Right p g₁ = right-is p g₁ t₁ in
     let r₂ : Right p g₂ = right-is p g₂ t₂ in
@@ -84,10 +89,18 @@ demand-3 p g₁ g₂ t₁ t₂ more t h =
     let at₂ : ℕ = besideOf (g₂ .tablets) t in
     let s₁ : at₁ < 2 ^ 32 = seated-small p g₁ r₁ t (more .tablets t h) in
     let s₂ : at₂ < 2 ^ 32 = seated-small p g₂ r₂ t h in
-    let n : key p t (besideOf (fill (key p) (g₂ .relays) (numbers (g₂ .tablets))) t) ≤ key p t (besideOf (fill (key p) (g₁ .relays) (numbers (g₁ .tablets))) t) =
-    nearer (key p) (λ r. r < 2 ^ 32) (λ t r q. key-apart p t r q) (g₁ .relays) (g₂ .relays) (numbers (g₁ .tablets)) (numbers (g₂ .tablets)) (r₁ .tablets .up) (r₂ .tablets .up)
+    let n : key p t (besideOf (fill (key p) (g₂ .relays) (numbers (g₂ .tablets))) t) ≤ key p t
+    (besideOf (fill (key p) (g₁ .relays) (numbers (g₁ .tablets))) t) =
+    nearer (key p) (λ r. r < 2 ^ 32) (λ t r q. key-apart p t r q) (g₁ .relays) (g₂ .relays) (numbers (g₁ .tablets))
+    (numbers (g₂ .tablets)) (r₁ .tablets .up) (r₂ .tablets .up)
     (λ r. split (ltb 0 (held (g₁ .relays) r))
-    (λ s. omega (arith, beside-held (g₁ .relays) 0 r (r₁ .relays .up), beside-held (g₂ .relays) 0 r (r₂ .relays .up), more .limits r (held-has (g₁ .relays) r (ltb-true 0 (held (g₁ .relays) r) s))))
+    (λ s. omega (
+      arith,
+      beside-held (g₁ .relays) 0 r (r₁ .relays .up),
+      beside-held (g₂ .relays) 0 r
+          (r₂ .relays .up),
+      more .limits r (held-has (g₁ .relays) r (ltb-true 0 (held (g₁ .relays) r) s)),
+    ))
     (λ s. omega (arith, ltb-false 0 (held (g₁ .relays) r) s)))
     (held-small p (g₂ .relays) (r₂ .relays))
     (λ u i. has-in (g₁ .tablets) u (more .tablets u (in-has (g₂ .tablets) u i)))

@@ -38,7 +38,8 @@ module _ (p : Positions) (g : Ring) (r : Right p g) where
       split (ltb (load (g .tablets) (e .number)) (e .beside))
       (λ s. rw s
       (ne-eqb (load (g .tablets) (e .number)) (e .beside)
-      (λ (h : load (g .tablets) (e .number) ≡ e .beside). omega (arith, ltb-true (load (g .tablets) (e .number)) (e .beside) s))))
+      (λ (h : load (g .tablets) (e .number) ≡ e .beside). omega
+      (arith, ltb-true (load (g .tablets) (e .number)) (e .beside) s))))
       (λ s. rw s
       (eq-eqb (load (g .tablets) (e .number)) (e .beside)
       (omega (arith, ltb-false (load (g .tablets) (e .number)) (e .beside) s, within e i))))
@@ -55,7 +56,8 @@ module _ (p : Positions) (g : Ring) (r : Right p g) where
     is-own e = eqb (e .number) own
 
     -- in a list by rising key, who stands up to one of that number has another number, and no greater key
-    up-to : (l : List Entry) → Sorted (key p t) l → (o : Entry) → Among o l → o .number ≡ own → (e : Entry) → Among e (upTo is-own l)
+    up-to : (l : List Entry) → Sorted (key p t) l → (o : Entry) → Among o l → o .number ≡ own → (e : Entry)
+        → Among e (upTo is-own l)
         → Among e l × ((e .number ≡ own → ⊥) × (key p t (e .number) ≤ key p t own))
     unfolding upTo
     up-to [] up o j h e = λ i. absurd i
@@ -64,7 +66,14 @@ module _ (p : Positions) (g : Ring) (r : Right p g) where
         (λ s. rw (s, upTo) (λ i. absurd i))
         (λ s. rw (s, upTo)
         (λ i. ⊎-elim
-        (λ u. (inl u, rw u (eqb-false (x .number) own s, ⊎-elim (λ v. absurd (eqb-false (x .number) own s (rw v at h))) (λ k. rw h at (up .0 o k)) j)))
+        (λ u. (
+          inl u,
+          rw u (
+            eqb-false (x .number) own s,
+            ⊎-elim (λ v. absurd (eqb-false (x .number) own s (rw v at h)))
+                (λ k. rw h at (up .0 o k)) j,
+          ),
+        ))
         (λ k. let d : Among e l × ((e .number ≡ own → ⊥) × (key p t (e .number) ≤ key p t own)) =
         up-to l (up .1) o (⊎-elim (λ v. absurd (eqb-false (x .number) own s (rw v at h))) (λ w. w) j) h e k in
         (inr (d .0), d .1))
@@ -81,15 +90,23 @@ module _ (p : Positions) (g : Ring) (r : Right p g) where
     ahead-full e i =
         let o : (o : Entry) × Among o (g .relays) × (o .number ≡ own) = own-relay in
         let d : Among e (order p t (g .relays)) × ((e .number ≡ own → ⊥) × (key p t (e .number) ≤ key p t own)) =
-        up-to (order p t (g .relays)) (order-sorted p t (g .relays) (r .relays .small)) (o .0) (in-order p t (g .relays) (o .0) (o .1)) (o .2) e i in
+        up-to (order p t (g .relays)) (order-sorted p t (g .relays) (r .relays .small)) (o .0)
+        (in-order p t (g .relays) (o .0) (o .1)) (o .2) e i in
         let j : Among e (g .relays) = order-in p t (g .relays) e (d .0) in
         let small : e .number < 2 ^ 32 = r .relays .small e j in
         let own-small : own < 2 ^ 32 = omega (arith, r .relays .small (o .0) (o .1), o .2) in
-        let nearer : key p t (e .number) < key p t own = let z : key p t (e .number) ≡ key p t own → ⊥ = λ k. d .1 .0 (key-apart p t (e .number) own small own-small k) in omega (arith, d .1 .1) in
-        let passed : sooner p t (e .number) own ≡ true = sooner-key p t (e .number) own small own-small ∙ lt-ltb (key p t (e .number)) (key p t own) nearer in
+        let nearer : key p t (e .number) < key p t own = let z : key p t (e .number) ≡ key p t own
+        → ⊥ = λ k. d .1 .0 (key-apart p t (e .number) own small own-small k) in omega (arith, d .1 .1) in
+        let passed : sooner p t (e .number) own ≡ true = sooner-key p t (e .number) own small own-small
+        ∙ lt-ltb (key p t (e .number)) (key p t own) nearer in
         eq-eqb (load (g .tablets) (e .number)) (e .beside)
         (split (ltb (load (g .tablets) (e .number)) (e .beside))
         (λ s. absurd (true-false (sym passed ∙ room-passed p g r (e .number)
-        (omega (arith, ltb-true (load (g .tablets) (e .number)) (e .beside) s, among-held (g .relays) 0 (r .relays .up) e j))
+        (omega (
+          arith,
+          ltb-true (load (g .tablets) (e .number)) (e .beside) s,
+          among-held (g .relays) 0
+              (r .relays .up) e j,
+        ))
         (entry t own) (sits-among (g .tablets) t own (has-sits (g .tablets) 0 t (r .tablets .up) there)))))
         (λ s. omega (arith, ltb-false (load (g .tablets) (e .number)) (e .beside) s, within e j)))

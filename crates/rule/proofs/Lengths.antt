@@ -25,7 +25,8 @@ moved-length old (e ∷ es) =
     (λ s. rw (s, moved) (omega (arith, moved-length old es)))
     (λ s. rw (s, moved) (omega (arith, moved-length old es)))
 
-seated-length : (p : Positions) (rs seated : List Entry) (ts : List ℕ) → length (orNobody (seatAll p rs seated ts)) ≤ length seated + length ts
+seated-length : (p : Positions) (rs seated : List Entry) (ts : List ℕ)
+    → length (orNobody (seatAll p rs seated ts)) ≤ length seated + length ts
 unfolding seatAll orNobody
 seated-length p rs seated [] = omega arith
 seated-length p rs seated (t ∷ ts) = at-seat (seat p rs seated t) refl (λ r. seated-length p rs (with r) ts)
@@ -33,7 +34,8 @@ seated-length p rs seated (t ∷ ts) = at-seat (seat p rs seated t) refl (λ r. 
     with : Entry → List Entry
     with r = seated ++ (entry t (r .number) ∷ [])
 
-    at-seat : (r : Option Entry) → seat p rs seated t ≡ r → ((x : Entry) → length (orNobody (seatAll p rs (with x) ts)) ≤ length (with x) + length ts)
+    at-seat : (r : Option Entry) → seat p rs seated t ≡ r
+        → ((x : Entry) → length (orNobody (seatAll p rs (with x) ts)) ≤ length (with x) + length ts)
         → length (orNobody (seatAll p rs seated (t ∷ ts))) ≤ length seated + suc (length ts)
     at-seat none e f = rw (e, seatAll) (omega arith)
     at-seat (some r) e f = rw (e, seatAll) (omega (arith, f r, length-append seated (entry t (r .number) ∷ [])))
@@ -41,4 +43,10 @@ seated-length p rs seated (t ∷ ts) = at-seat (seat p rs seated t) refl (λ r. 
 pub moves-length : (p : Positions) (g : Ring) (c : Call) → length (moves p g c) ≤ length (edited g c .tablets)
 unfolding moves after placement
 moves-length p g c =
-    omega (arith, moved-length (g .tablets) (after p g c .tablets), seated-length p (edited g c .relays) [] (numbers (edited g c .tablets)), length-numbers (edited g c .tablets))
+    omega (
+      arith,
+      moved-length (g .tablets) (after p g c .tablets),
+      seated-length p (edited g c .relays) []
+          (numbers (edited g c .tablets)),
+      length-numbers (edited g c .tablets),
+    )

@@ -14,7 +14,10 @@ use borrow.Author.Tests.{ne-eqb}
 use Rattle.ring.specs.Scheme.{Positions}
 use Rattle.ring.proofs.Tests.{split, true-false}
 use Rattle.rule.specs.declared.Refusal.{Refusal}
-use Rattle.rule.specs.declared.Refusal.the-variants.{Done, SchemeUnknown, TablesNotRight, NumberZero, TooLarge, NotThere, ThereAlready, NoUnusedPlace, LimitsTooSmall, MoveListTooShort, RosterShapeWrong, RosterContentWrong, OutputUnfit}
+use Rattle.rule.specs.declared.Refusal.the-variants.{Done, SchemeUnknown, TablesNotRight, NumberZero, TooLarge}
+use Rattle.rule.specs.declared.Refusal.the-variants.{NotThere, ThereAlready, NoUnusedPlace, LimitsTooSmall}
+use Rattle.rule.specs.declared.Refusal.the-variants.{MoveListTooShort, RosterShapeWrong, RosterContentWrong}
+use Rattle.rule.specs.declared.Refusal.the-variants.{OutputUnfit}
 use Rattle.rule.specs.declared.Call.{Call}
 use Rattle.rule.specs.declared.Call.the-variants.{Add, Remove, Set, Enrol, Withdraw, Find}
 use Rattle.rule.specs.Rule.{Ring}
@@ -57,7 +60,8 @@ module _ (rank : Refusal → ℕ) where
   ranked-above low (c ∷ cs) r b (inl e) = rw e (r .0)
   ranked-above low (c ∷ cs) r b (inr i) = omega (arith, r .0, ranked-above (rank (c .refusal)) cs (r .1) b i)
 
-  first-lowest : (low : ℕ) (bs : List Bar) → Ranked rank low bs → (b : Bar) → OneOf b bs → b .applies ≡ true → rank (firstBar bs) ≤ rank (b .refusal)
+  first-lowest : (low : ℕ) (bs : List Bar) → Ranked rank low bs → (b : Bar) → OneOf b bs → b .applies ≡ true
+      → rank (firstBar bs) ≤ rank (b .refusal)
   unfolding firstBar
   first-lowest low (c ∷ cs) r b (inl e) h =
       let a : c .applies ≡ true = ap (λ (x : Bar). x .applies) (sym e) ∙ h in
@@ -72,7 +76,8 @@ unfolding firstBar isDone
 first-applies [] h = absurd (true-false h)
 first-applies (c ∷ cs) h = go (c .applies) refl (λ k. first-applies cs k)
   where
-    go : (b : Bool) → c .applies ≡ b → (isDone (firstBar cs) ≡ false → Given cs (firstBar cs)) → Given (c ∷ cs) (firstBar (c ∷ cs))
+    go : (b : Bool) → c .applies ≡ b → (isDone (firstBar cs) ≡ false → Given cs (firstBar cs))
+        → Given (c ∷ cs) (firstBar (c ∷ cs))
     go true s later = record { bar = c; among = inl refl; applies = s; is = rw (s, firstBar) refl }
     go false s later =
         let g : Given cs (firstBar cs) = later (rw (s, firstBar) at h) in
@@ -86,13 +91,17 @@ first-none (c ∷ cs) r d b i =
     (λ s. ⊎-elim (λ e. ap (λ (x : Bar). x .applies) e ∙ s) (λ j. first-none cs (r .1) (rw (s, firstBar) at d) b j) i)
 
 pub lowest-first : (rank : Refusal → ℕ) (bs : List Bar) → Ranked rank 0 bs → Real bs → Lowest rank bs (firstBar bs)
-lowest-first rank bs r real = record { given = first-applies bs; first = first-lowest rank 0 bs r; none-applies = first-none bs real }
+lowest-first rank bs r real =
+    record { given = first-applies bs; first = first-lowest rank 0 bs r; none-applies = first-none bs real }
 
 numbers-are-real : (low : ℕ) (bs : List Bar) → Ranked numberOf low bs → Real bs
 unfolding isDone
 numbers-are-real low [] r = tt
-numbers-are-real low (b ∷ bs) r =
-    (ne-eqb (numberOf (b .refusal)) 0 (λ (e : numberOf (b .refusal) ≡ 0). omega (arith, r .0)), numbers-are-real (numberOf (b .refusal)) bs (r .1))
+numbers-are-real low (b ∷ bs) r = (
+  ne-eqb (numberOf (b .refusal)) 0 (λ (e : numberOf (b .refusal) ≡ 0). omega (arith, r .0)),
+  numbers-are-real
+      (numberOf (b .refusal)) bs (r .1),
+)
 
 -- by number
 pub lowest-number : (bs : List Bar) → Ranked numberOf 0 bs → Lowest numberOf bs (firstBar bs)
@@ -109,7 +118,8 @@ unfolding firstBar
 first-past x xs s = rw (s, firstBar) refl
 
 -- a list that stands as one bar in another
-chain-flat : (xs ys : List Bar) → Real xs → firstBar (bar (not (isDone (firstBar xs))) (firstBar xs) ∷ ys) ≡ firstBar (xs ++ ys)
+chain-flat : (xs ys : List Bar) → Real xs → firstBar (bar (not (isDone (firstBar xs))) (firstBar xs) ∷ ys)
+    ≡ firstBar (xs ++ ys)
 chain-flat [] ys r = unfold isDone firstBar in refl
 chain-flat (x ∷ xs) ys r =
     split (x .applies)
@@ -135,11 +145,24 @@ refusal-first p m g c = bar-before _ _ _ (bar-before _ _ _ (chain-flat (wrongNum
 
 bars-rise : (p : Positions) (m : Lent) (g : Ring) (c : Call) → Ranked numberOf 0 (bars p m g c)
 unfolding wrongNumbers
-bars-rise p m g (Add r l) = (omega arith, (omega arith, (omega arith, (omega arith, (omega arith, (omega arith, (omega arith, (omega arith, tt))))))))
-bars-rise p m g (Remove r) = (omega arith, (omega arith, (omega arith, (omega arith, (omega arith, (omega arith, tt))))))
-bars-rise p m g (Set r l) = (omega arith, (omega arith, (omega arith, (omega arith, (omega arith, (omega arith, (omega arith, tt)))))))
-bars-rise p m g (Enrol t) = (omega arith, (omega arith, (omega arith, (omega arith, (omega arith, (omega arith, (omega arith, tt)))))))
-bars-rise p m g (Withdraw t) = (omega arith, (omega arith, (omega arith, (omega arith, (omega arith, (omega arith, tt))))))
+bars-rise p m g (Add r l) = (
+  omega arith,
+  (
+    omega arith,
+    (
+      omega arith,
+      (omega arith, (omega arith, (omega arith, (omega arith, (omega arith, tt))))),
+    ),
+  ),
+)
+bars-rise p m g (Remove r) =
+    (omega arith, (omega arith, (omega arith, (omega arith, (omega arith, (omega arith, tt))))))
+bars-rise p m g (Set r l) =
+    (omega arith, (omega arith, (omega arith, (omega arith, (omega arith, (omega arith, (omega arith, tt)))))))
+bars-rise p m g (Enrol t) =
+    (omega arith, (omega arith, (omega arith, (omega arith, (omega arith, (omega arith, (omega arith, tt)))))))
+bars-rise p m g (Withdraw t) =
+    (omega arith, (omega arith, (omega arith, (omega arith, (omega arith, (omega arith, tt))))))
 bars-rise p m g (Find t) = (omega arith, (omega arith, (omega arith, (omega arith, (omega arith, (omega arith, tt))))))
 
 pub refusal-lowest : (p : Positions) (m : Lent) (g : Ring) (c : Call) → Lowest numberOf (bars p m g c) (refusal p m g c)
@@ -147,6 +170,7 @@ refusal-lowest p m g c = rw (refusal-first p m g c) (lowest-number (bars p m g c
 
 -- ---- of a balance
 
-pub balance-lowest : (p q tablets relays : ℕ) → Lowest numberOf (balanceBars p q tablets relays) (balanceRefusal p q tablets relays)
+pub balance-lowest : (p q tablets relays : ℕ) → Lowest numberOf (balanceBars p q tablets relays)
+    (balanceRefusal p q tablets relays)
 unfolding balanceRefusal
 balance-lowest p q tablets relays = lowest-number (balanceBars p q tablets relays) (omega arith, (omega arith, tt))

@@ -44,27 +44,32 @@ listed-behind : (x : Move) (l : List Move) (m : Move) → Listed m (x ∷ l) →
 listed-behind x l m (inl u) h = absurd (omega (arith, ap (λ (z : Move). z .tablet .0) u))
 listed-behind x l m (inr i) h = i
 
-listed-least : (x : Move) (l : List Move) → Rising (x .tablet .0) (tabletsListed l) → (m : Move) → Listed m (x ∷ l) → x .tablet .0 ≤ m .tablet .0
+listed-least : (x : Move) (l : List Move) → Rising (x .tablet .0) (tabletsListed l) → (m : Move) → Listed m (x ∷ l)
+    → x .tablet .0 ≤ m .tablet .0
 listed-least x l up m (inl u) = omega (arith, ap (λ (z : Move). z .tablet .0) u)
 listed-least x l up m (inr i) = omega (arith, listed-above l (x .tablet .0) up m i)
 
 -- two lists of the same moves are one
-moves-ext : (k l : List Move) (low : ℕ) → Rising low (tabletsListed k) → Rising low (tabletsListed l) → ((m : Move) → Listed m k → Listed m l) → ((m : Move) → Listed m l → Listed m k) → k ≡ l
+moves-ext : (k l : List Move) (low : ℕ) → Rising low (tabletsListed k) → Rising low (tabletsListed l)
+    → ((m : Move) → Listed m k → Listed m l) → ((m : Move) → Listed m l → Listed m k) → k ≡ l
 moves-ext [] [] low u v f g = refl
 moves-ext [] (y ∷ l) low u v f g = absurd (g y (inl refl))
 moves-ext (x ∷ k) [] low u v f g = absurd (f x (inl refl))
 moves-ext (x ∷ k) (y ∷ l) low u v f g =
     let a : y .tablet .0 ≤ x .tablet .0 = listed-least y l (v .1) x (f x (inl refl)) in
     let b : x .tablet .0 ≤ y .tablet .0 = listed-least x k (u .1) y (g y (inl refl)) in
-    let e : x ≡ y = ⊎-elim (λ s. s) (λ i. absurd (omega (arith, listed-above l (y .tablet .0) (v .1) x i))) (f x (inl refl)) in
-    let ih : k ≡ l = moves-ext k l (x .tablet .0) (u .1) (rising-low (tabletsListed l) (y .tablet .0) (x .tablet .0) b (v .1))
+    let e : x ≡ y = ⊎-elim (λ s. s) (λ i. absurd (omega (arith, listed-above l (y .tablet .0) (v .1) x i)))
+    (f x (inl refl)) in
+    let ih : k ≡ l = moves-ext k l (x .tablet .0) (u .1)
+    (rising-low (tabletsListed l) (y .tablet .0) (x .tablet .0) b (v .1))
     (λ m i. listed-behind y l m (f m (inr i)) (omega (arith, listed-above k (x .tablet .0) (u .1) m i)))
     (λ m i. listed-behind x k m (g m (inr i)) (omega (arith, listed-above l (y .tablet .0) (v .1) m i))) in
     λ i. e i ∷ ih i
 
 -- ---- sitting down
 
-sits-put : (n v : ℕ) (es : List Entry) (low : ℕ) → Rising low (numbers es) → (m w : ℕ) → Sits (put n v es) m w → ((m ≡ n) × (w ≡ v)) ⊎ (Sits es m w × (m ≡ n → ⊥))
+sits-put : (n v : ℕ) (es : List Entry) (low : ℕ) → Rising low (numbers es) → (m w : ℕ) → Sits (put n v es) m w
+    → ((m ≡ n) × (w ≡ v)) ⊎ (Sits es m w × (m ≡ n → ⊥))
 unfolding put numbers
 sits-put n v [] low up m w = λ i. absurd i
 sits-put n v (e ∷ es) low up m w =
@@ -95,7 +100,8 @@ put-other n v (e ∷ es) m w =
 pub numbers-seated : (ms : List Move) (es : List Entry) → numbers (seated ms es) ≡ numbers es
 unfolding seated
 numbers-seated [] es = refl
-numbers-seated (m ∷ ms) es = numbers-seated ms (put (m .tablet .0) (m .new .0) es) ∙ numbers-put (m .tablet .0) (m .new .0) es
+numbers-seated (m ∷ ms) es =
+    numbers-seated ms (put (m .tablet .0) (m .new .0) es) ∙ numbers-put (m .tablet .0) (m .new .0) es
 
 -- who sits at the end is one who sat down, or sat there before
 sits-seated : (ms : List Move) (es : List Entry) → Rising 0 (numbers es) → (n v : ℕ) → Sits (seated ms es) n v
@@ -105,17 +111,21 @@ sits-seated [] es up n v i = inr i
 sits-seated (m ∷ ms) es up n v i =
     ⊎-elim
     (λ u. inl (u .0, inr (u .1), u .2, u .3))
-    (λ j. ⊎-elim (λ u. inl (m, inl refl, sym (u .0), sym (u .1))) (λ u. inr (u .0)) (sits-put (m .tablet .0) (m .new .0) es 0 up n v j))
+    (λ j. ⊎-elim (λ u. inl (m, inl refl, sym (u .0), sym (u .1))) (λ u. inr (u .0))
+    (sits-put (m .tablet .0) (m .new .0) es 0 up n v j))
     (sits-seated ms (put (m .tablet .0) (m .new .0) es) (rw (numbers-put (m .tablet .0) (m .new .0) es) up) n v i)
 
 -- who is not in the list stays
-pub seated-other : (ms : List Move) (low : ℕ) → Rising low (tabletsListed ms) → (es : List Entry) (n v : ℕ) → n ≤ low → Sits es n v → Sits (seated ms es) n v
+pub seated-other : (ms : List Move) (low : ℕ) → Rising low (tabletsListed ms) → (es : List Entry) (n v : ℕ) → n ≤ low
+    → Sits es n v → Sits (seated ms es) n v
 unfolding seated
 seated-other [] low up es n v h i = i
 seated-other (m ∷ ms) low up es n v h i =
-    seated-other ms (m .tablet .0) (up .1) (put (m .tablet .0) (m .new .0) es) n v (omega (arith, up .0)) (put-other (m .tablet .0) (m .new .0) es n v i (λ x. omega (arith, up .0)))
+    seated-other ms (m .tablet .0) (up .1) (put (m .tablet .0) (m .new .0) es) n v (omega (arith, up .0))
+    (put-other (m .tablet .0) (m .new .0) es n v i (λ x. omega (arith, up .0)))
 
-seated-sits : (ms : List Move) (low : ℕ) → Rising low (tabletsListed ms) → (es : List Entry) (m : Move) → Listed m ms → In (m .tablet .0) (numbers es) → Sits (seated ms es) (m .tablet .0) (m .new .0)
+seated-sits : (ms : List Move) (low : ℕ) → Rising low (tabletsListed ms) → (es : List Entry) (m : Move) → Listed m ms
+    → In (m .tablet .0) (numbers es) → Sits (seated ms es) (m .tablet .0) (m .new .0)
 unfolding seated
 seated-sits [] low up es m i j = absurd i
 seated-sits (x ∷ ms) low up es m (inl u) j =
@@ -123,7 +133,8 @@ seated-sits (x ∷ ms) low up es m (inl u) j =
     (seated-other ms (x .tablet .0) (up .1) (put (x .tablet .0) (x .new .0) es) (x .tablet .0) (x .new .0) (omega arith)
     (put-sits (x .tablet .0) (x .new .0) es (subst (λ (z : Move). In (z .tablet .0) (numbers es)) u j)))
 seated-sits (x ∷ ms) low up es m (inr i) j =
-    seated-sits ms (x .tablet .0) (up .1) (put (x .tablet .0) (x .new .0) es) m i (rw (numbers-put (x .tablet .0) (x .new .0) es) j)
+    seated-sits ms (x .tablet .0) (up .1) (put (x .tablet .0) (x .new .0) es) m i
+    (rw (numbers-put (x .tablet .0) (x .new .0) es) j)
 
 -- ---- who sits down is who moved
 
@@ -135,9 +146,11 @@ pub record Honest (old es : List Entry) (m : Move) : Type 0 where
   pub other : m .old .0 ≡ m .new .0 → ⊥
 
 pub moved-seated : (old es : List Entry) (ms : List Move) → Rising 0 (numbers es) → Rising 0 (tabletsListed ms)
-    → ((m : Move) → Listed m ms → Honest old es m) → ((n v : ℕ) → Sits es n v → has old n ≡ true → besideOf old n ≡ v) → moved old (seated ms es) ≡ ms
+    → ((m : Move) → Listed m ms → Honest old es m) → ((n v : ℕ) → Sits es n v → has old n ≡ true → besideOf old n ≡ v)
+    → moved old (seated ms es) ≡ ms
 moved-seated old es ms up ups honest same =
-    moves-ext (moved old (seated ms es)) ms 0 (moved-rising old (seated ms es) 0 (rw (numbers-seated ms es) up)) ups to from
+    moves-ext (moved old (seated ms es)) ms 0 (moved-rising old (seated ms es) 0 (rw (numbers-seated ms es) up)) ups to
+    from
   where
     to : (m : Move) → Listed m (moved old (seated ms es)) → Listed m ms
     to m i =
@@ -147,7 +160,8 @@ moved-seated old es ms up ups honest same =
         (λ j. absurd (v .other (v .from ∙ same (m .tablet .0) (m .new .0) j (v .was))))
         (sits-seated ms es up (m .tablet .0) (m .new .0) (v .to))
       where
-        is-it : (m : Move) → Moves old (seated ms es) m → (s : Move) → Listed s ms → s .tablet .0 ≡ m .tablet .0 → s .new .0 ≡ m .new .0 → s ≡ m
+        is-it : (m : Move) → Moves old (seated ms es) m → (s : Move) → Listed s ms → s .tablet .0 ≡ m .tablet .0
+            → s .new .0 ≡ m .new .0 → s ≡ m
         is-it m v s i a b =
             let o : s .old .0 ≡ m .old .0 = sym (honest s i .from) ∙ ap (besideOf old) a ∙ sym (v .from) in
             λ k. move (a k) (o k) (b k)
@@ -156,7 +170,8 @@ moved-seated old es ms up ups honest same =
     from m i =
         let h : Honest old es m = honest m i in
         let l : Listed (move (m .tablet .0) (besideOf old (m .tablet .0)) (m .new .0)) (moved old (seated ms es)) =
-        moved-all old (seated ms es) (m .tablet .0) (m .new .0) (h .was) (seated-sits ms 0 ups es m i (h .there)) (λ e. h .other (sym (h .from) ∙ e)) in
+        moved-all old (seated ms es) (m .tablet .0) (m .new .0) (h .was) (seated-sits ms 0 ups es m i (h .there))
+        (λ e. h .other (sym (h .from) ∙ e)) in
         subst (λ (z : Move). Listed z (moved old (seated ms es))) (λ k. move (m .tablet .0) (h .from k) (m .new .0)) l
 
 -- ---- the chain of an enrolment
@@ -199,7 +214,8 @@ module _ (ts : List Entry) (x : ℕ) where
     pub other : (e : Entry) → Among e ahead → s .from ≡ e .number → ⊥
 
   -- one more sits down
-  chain-more : (s : Turn) (ahead : List Entry) → Linked s ahead → (c : Entry) → Among c ahead → Chain ts x (seats s (c .number))
+  chain-more : (s : Turn) (ahead : List Entry) → Linked s ahead → (c : Entry) → Among c ahead
+      → Chain ts x (seats s (c .number))
   unfolding seats
   chain-more s ahead l c i =
       record {
@@ -207,8 +223,12 @@ module _ (ts : List Entry) (x : ℕ) where
         rest = l .before .rest ++ (move (s .walker) (s .from) (c .number) ∷ []);
         is = ap (λ (k : List Move). k ++ (move (s .walker) (s .from) (c .number) ∷ [])) (l .before .is);
         up = rw (tablets-more (l .before .rest) (move (s .walker) (s .from) (c .number))) (l .up);
-        sat = λ m j. ⊎-elim (λ k. l .before .sat m k) (λ u. subst (λ (z : Move). Sits ts (z .tablet .0) (z .old .0)) (sym u) (l .sat)) (listed-more (l .before .rest) _ m j);
-        other = λ m j. ⊎-elim (λ k. l .before .other m k) (λ u. subst (λ (z : Move). z .old .0 ≡ z .new .0 → ⊥) (sym u) (l .other c i)) (listed-more (l .before .rest) _ m j);
+        sat = λ m j. ⊎-elim (λ k. l .before .sat m k)
+            (λ u. subst (λ (z : Move). Sits ts (z .tablet .0) (z .old .0)) (sym u) (l .sat))
+            (listed-more (l .before .rest) _ m j);
+        other = λ m j. ⊎-elim (λ k. l .before .other m k)
+            (λ u. subst (λ (z : Move). z .old .0 ≡ z .new .0 → ⊥) (sym u) (l .other c i))
+            (listed-more (l .before .rest) _ m j);
       }
 
   chain-first : (s : Turn) → Fresh s → (r : ℕ) → Chain ts x (seats s r)
@@ -223,11 +243,13 @@ module _ (ts : List Entry) (x : ℕ) where
         other = λ m i. absurd i;
       }
 
-  chain-end : (s : Turn) (ahead : List Entry) → Fresh s ⊎ Linked s ahead → (c : Entry) → Among c ahead → Chain ts x (seats s (c .number))
+  chain-end : (s : Turn) (ahead : List Entry) → Fresh s ⊎ Linked s ahead → (c : Entry) → Among c ahead
+      → Chain ts x (seats s (c .number))
   chain-end s ahead (inl f) c i = chain-first s f (c .number)
   chain-end s ahead (inr l) c i = chain-more s ahead l c i
 
-  displaced-linked : (s : Turn) (c : Entry) (cs : List Entry) → Fresh s ⊎ Linked s (c ∷ cs) → ((e : Entry) → Among e cs → c .number ≡ e .number → ⊥) → s .walker < greatest ts (c .number)
+  displaced-linked : (s : Turn) (c : Entry) (cs : List Entry) → Fresh s ⊎ Linked s (c ∷ cs)
+      → ((e : Entry) → Among e cs → c .number ≡ e .number → ⊥) → s .walker < greatest ts (c .number)
       → Linked (displacedBy ts s c) cs
   unfolding chain-end chain-first chain-more
   displaced-linked s c cs k others h =
@@ -238,7 +260,8 @@ module _ (ts : List Entry) (x : ℕ) where
         other = others;
       }
     where
-      rises : (k : Fresh s ⊎ Linked s (c ∷ cs)) → Rising x (tabletsListed (chain-end s (c ∷ cs) k c (inl refl) .rest) ++ (greatest ts (c .number) ∷ []))
+      rises : (k : Fresh s ⊎ Linked s (c ∷ cs))
+          → Rising x (tabletsListed (chain-end s (c ∷ cs) k c (inl refl) .rest) ++ (greatest ts (c .number) ∷ []))
       rises (inl f) = (omega (arith, f .walker), tt)
       rises (inr l) =
           rw (tablets-more (l .before .rest) (move (s .walker) (s .from) (c .number)))
@@ -246,10 +269,12 @@ module _ (ts : List Entry) (x : ℕ) where
 
   further : (s : Turn) (c : Entry) (cs : List Entry) → Fresh s ⊎ Linked s (c ∷ cs) → Fresh s ⊎ Linked s cs
   further s c cs (inl f) = inl f
-  further s c cs (inr l) = inr (record { before = l .before; up = l .up; sat = l .sat; other = λ e i. l .other e (inr i) })
+  further s c cs (inr l) =
+      inr (record { before = l .before; up = l .up; sat = l .sat; other = λ e i. l .other e (inr i) })
 
   module _ (f : Entry → Bool) where
-    pub turn-chain : (ahead : List Entry) (s : Turn) (c : Entry) → Fresh s ⊎ Linked s ahead → Distinct ahead → first f ahead ≡ some c → Chain ts x (seats (turn ts s (upTo f ahead)) (c .number))
+    pub turn-chain : (ahead : List Entry) (s : Turn) (c : Entry) → Fresh s ⊎ Linked s ahead → Distinct ahead
+        → first f ahead ≡ some c → Chain ts x (seats (turn ts s (upTo f ahead)) (c .number))
     unfolding first
     turn-chain [] s c k d h = absurd (option-apart c h)
     turn-chain (e ∷ cs) s c k d h =
@@ -265,15 +290,19 @@ module _ (ts : List Entry) (x : ℕ) where
         (subst (λ (z : Turn). Chain ts x (seats z (c .number))) (sym (turn-more ts s e (upTo f cs)))
         (split (ltb (s .walker) (greatest ts (e .number)))
         (λ b. subst (λ (z : Turn). Chain ts x (seats (turn ts z (upTo f cs)) (c .number))) (sym (turnAt-yes ts s e b))
-        (turn-chain cs (displacedBy ts s e) c (inr (displaced-linked s e cs k (d .0) (ltb-true (s .walker) (greatest ts (e .number)) b))) (d .1) h′))
+        (turn-chain cs (displacedBy ts s e) c (inr
+        (displaced-linked s e cs k (d .0) (ltb-true (s .walker) (greatest ts (e .number)) b))) (d .1) h′))
         (λ b. subst (λ (z : Turn). Chain ts x (seats (turn ts z (upTo f cs)) (c .number))) (sym (turnAt-no ts s e b))
         (turn-chain cs s c (further s e cs k) (d .1) h′)))))
 
 -- the move list of an enrolment is its chain behind the newcomer
-module _ (ts : List Entry) (up : Rising 0 (numbers ts)) (x : ℕ) (some-number : 0 < x) (new : In x (numbers ts) → ⊥) where
-  pub chain-seated : (ms : List Move) (c : Chain ts x ms) → seated ms (insert x 0 ts) ≡ seated (c .rest) (insert x (c .seat) ts)
+module _ (ts : List Entry) (up : Rising 0 (numbers ts)) (x : ℕ) (some-number : 0 < x)
+    (new : In x (numbers ts) → ⊥) where
+  pub chain-seated : (ms : List Move) (c : Chain ts x ms) → seated ms (insert x 0 ts)
+      ≡ seated (c .rest) (insert x (c .seat) ts)
   chain-seated ms c =
-      ap (λ (k : List Move). seated k (insert x 0 ts)) (c .is) ∙ unfold seated in (ap (seated (c .rest)) (put-inserted x (c .seat) 0 ts new))
+      ap (λ (k : List Move). seated k (insert x 0 ts)) (c .is)
+      ∙ unfold seated in (ap (seated (c .rest)) (put-inserted x (c .seat) 0 ts new))
 
   pub turn-moves : (ms : List Move) (c : Chain ts x ms) → moved ts (seated ms (insert x 0 ts)) ≡ c .rest
   turn-moves ms c =
@@ -301,36 +330,47 @@ module _ (p : Positions) where
   holes-rising [] low r up = unfold holes in tt
   holes-rising (e ∷ l) low r up =
       split (hadPassed p r e)
-      (λ h. subst (λ (k : List Move). Rising low (tabletsListed k)) (sym (holes-take p r e l h)) (up .0, holes-rising l (e .number) (e .beside) (up .1)))
-      (λ h. subst (λ (k : List Move). Rising low (tabletsListed k)) (sym (holes-pass p r e l h)) (rising-low (tabletsListed (holes p r l)) (e .number) low (omega (arith, up .0)) (holes-rising l (e .number) r (up .1))))
+      (λ h. subst (λ (k : List Move). Rising low (tabletsListed k)) (sym (holes-take p r e l h))
+      (up .0, holes-rising l (e .number) (e .beside) (up .1)))
+      (λ h. subst (λ (k : List Move). Rising low (tabletsListed k)) (sym (holes-pass p r e l h))
+      (rising-low (tabletsListed (holes p r l)) (e .number) low (omega (arith, up .0))
+      (holes-rising l (e .number) r (up .1))))
 
   -- nobody had passed its own relay
   not-own : (t r : ℕ) → sooner p t r r ≡ false
   unfolding sooner
-  not-own t r = rw (le-ltb (distance p t r) (distance p t r) (omega arith), le-ltb r r (omega arith)) (and-false (eqb (distance p t r) (distance p t r)))
+  not-own t r =
+      rw (le-ltb (distance p t r) (distance p t r) (omega arith), le-ltb r r (omega arith))
+      (and-false (eqb (distance p t r) (distance p t r)))
 
-  holes-sat : (l : List Entry) (r : ℕ) (m : Move) → Listed m (holes p r l) → Sits l (m .tablet .0) (m .old .0) × (m .old .0 ≡ m .new .0 → ⊥)
+  holes-sat : (l : List Entry) (r : ℕ) (m : Move) → Listed m (holes p r l) → Sits l (m .tablet .0) (m .old .0)
+      × (m .old .0 ≡ m .new .0 → ⊥)
   holes-sat [] r m i = absurd (unfold holes in i)
   holes-sat (e ∷ l) r m i =
       split (hadPassed p r e)
       (λ h. ⊎-elim
-      (λ u. subst (λ (z : Move). Sits (e ∷ l) (z .tablet .0) (z .old .0) × (z .old .0 ≡ z .new .0 → ⊥)) (sym u) (inl (refl, refl), λ x. other h x))
+      (λ u. subst (λ (z : Move). Sits (e ∷ l) (z .tablet .0) (z .old .0) × (z .old .0 ≡ z .new .0 → ⊥)) (sym u)
+      (inl (refl, refl), λ x. other h x))
       (λ j. deeper (holes-sat l (e .beside) m j))
       (subst (λ (k : List Move). Listed m k) (holes-take p r e l h) i))
       (λ h. deeper (holes-sat l r m (subst (λ (k : List Move). Listed m k) (holes-pass p r e l h) i)))
     where
-      deeper : Sits l (m .tablet .0) (m .old .0) × (m .old .0 ≡ m .new .0 → ⊥) → Sits (e ∷ l) (m .tablet .0) (m .old .0) × (m .old .0 ≡ m .new .0 → ⊥)
+      deeper : Sits l (m .tablet .0) (m .old .0) × (m .old .0 ≡ m .new .0 → ⊥) → Sits (e ∷ l) (m .tablet .0) (m .old .0)
+          × (m .old .0 ≡ m .new .0 → ⊥)
       deeper v = (inr (v .0), v .1)
 
       other : hadPassed p r e ≡ true → e .beside ≡ r → ⊥
-      other h x = unfold hadPassed in (true-false (sym h ∙ ap (λ (z : ℕ). sooner p (e .number) r z) x ∙ not-own (e .number) r))
+      other h x =
+          unfold hadPassed in (true-false (sym h ∙ ap (λ (z : ℕ). sooner p (e .number) r z) x ∙ not-own (e .number) r))
 
-  pub holes-moves : (ts : List Entry) → Rising 0 (numbers ts) → (x r : ℕ) → moved ts (seated (holes p r (delete x ts)) (delete x ts)) ≡ holes p r (delete x ts)
+  pub holes-moves : (ts : List Entry) → Rising 0 (numbers ts) → (x r : ℕ)
+      → moved ts (seated (holes p r (delete x ts)) (delete x ts)) ≡ holes p r (delete x ts)
   holes-moves ts up x r =
       let up′ : Rising 0 (numbers (delete x ts)) = rising-delete x ts 0 up in
       moved-seated ts (delete x ts) (holes p r (delete x ts)) up′ (holes-rising (delete x ts) 0 r up′)
       (λ m i.
-      let s : Sits (delete x ts) (m .tablet .0) (m .old .0) × (m .old .0 ≡ m .new .0 → ⊥) = holes-sat (delete x ts) r m i in
+      let s : Sits (delete x ts) (m .tablet .0) (m .old .0) × (m .old .0 ≡ m .new .0 → ⊥) = holes-sat
+      (delete x ts) r m i in
       let j : Sits ts (m .tablet .0) (m .old .0) = sits-delete x ts (m .tablet .0) (m .old .0) (s .0) in
       record {
         was = in-has ts (m .tablet .0) (sits-in ts (m .tablet .0) (m .old .0) j);

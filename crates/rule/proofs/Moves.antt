@@ -57,7 +57,8 @@ moved-is old (e ∷ es) m =
       was = and-left (has old (e .number)) (not (eqb (besideOf old (e .number)) (e .beside))) s;
       from = refl;
       to = inl (refl, refl);
-      other = differ (besideOf old (e .number)) (e .beside) (and-right (has old (e .number)) (not (eqb (besideOf old (e .number)) (e .beside))) s);
+      other = differ (besideOf old (e .number)) (e .beside)
+          (and-right (has old (e .number)) (not (eqb (besideOf old (e .number)) (e .beside))) s);
     }))
     (λ j. further old e es m (moved-is old es m j)) i))
     (λ s. rw (s, moved) (λ i. further old e es m (moved-is old es m i)))
@@ -83,7 +84,8 @@ moved-rising old [] low up = tt
 moved-rising old (e ∷ es) low up =
     split (moves? old e)
     (λ s. rw (s, moved) (up .0, moved-rising old es (e .number) (up .1)))
-    (λ s. rw (s, moved) (rising-low (tabletsListed (moved old es)) (e .number) low (omega (arith, up .0)) (moved-rising old es (e .number) (up .1))))
+    (λ s. rw (s, moved) (rising-low (tabletsListed (moved old es)) (e .number) low (omega (arith, up .0))
+    (moved-rising old es (e .number) (up .1))))
 
 -- where everybody sits as before nobody moved
 pub moved-none : (old es : List Entry) → ((n v : ℕ) → Sits es n v → besideOf old n ≡ v) → moved old es ≡ []
@@ -91,11 +93,14 @@ unfolding moved
 moved-none old [] f = refl
 moved-none old (e ∷ es) f =
     let h : besideOf old (e .number) ≡ e .beside = f (e .number) (e .beside) (inl (refl, refl)) in
-    let d : moves? old e ≡ false = rw (eq-eqb (besideOf old (e .number)) (e .beside) h) (and-false (has old (e .number))) in
+    let d : moves? old e ≡ false = rw (eq-eqb (besideOf old (e .number)) (e .beside) h)
+    (and-false (has old (e .number))) in
     rw (d, moved) (moved-none old es (λ n v i. f n v (inr i)))
 
 -- ---- the home
 
-pub home-nearest : (p : Positions) (t : ℕ) (rs : List Entry) → Small rs → (e : Entry) → home p t rs ≡ some e → (x : Entry) → Among x rs → key p t (e .number) ≤ key p t (x .number)
+pub home-nearest : (p : Positions) (t : ℕ) (rs : List Entry) → Small rs → (e : Entry) → home p t rs ≡ some e
+    → (x : Entry) → Among x rs → key p t (e .number) ≤ key p t (x .number)
 unfolding home
-home-nearest p t rs small e h x i = first-least (λ y. true) (key p t) (order p t rs) (order-sorted p t rs small) e h x (in-order p t rs x i) refl
+home-nearest p t rs small e h x i =
+    first-least (λ y. true) (key p t) (order p t rs) (order-sorted p t rs small) e h x (in-order p t rs x i) refl

@@ -36,7 +36,8 @@ module _ (p : Positions) (m : Lent) (g : Ring) where
     unfolding moves
     named-all v h =
         rw (h .old, h .new)
-        (moved-all (g .tablets) ts (v .tablet .0) (besideOf ts (v .tablet .0)) (h .before) (has-sits ts 0 (v .tablet .0) rises (h .now-there))
+        (moved-all (g .tablets) ts (v .tablet .0) (besideOf ts (v .tablet .0)) (h .before)
+        (has-sits ts 0 (v .tablet .0) rises (h .now-there))
         (λ e. h .other (h .old ∙ e ∙ sym (h .new))))
 
     named-only : (v : Move) → Listed v (moves p g c) → Moved g (after p g c) v
@@ -52,15 +53,19 @@ module _ (p : Positions) (m : Lent) (g : Ring) where
         }
 
     pub moves-named : Names g (after p g c) (moves p g c)
-    moves-named = record { all = named-all; only = named-only; once = unfold moves in (moved-rising (g .tablets) ts 0 rises) }
+    moves-named =
+        record { all = named-all; only = named-only; once = unfold moves in (moved-rising (g .tablets) ts 0 rises) }
 
   module _ (t : TabletNumber) where
-    pub enrol-not-listed : isDone (refusal p m g (Enrol t)) ≡ true → (v : Move) → Listed v (moves p g (Enrol t)) → v .tablet .0 ≡ t .0 → ⊥
+    pub enrol-not-listed : isDone (refusal p m g (Enrol t)) ≡ true → (v : Move) → Listed v (moves p g (Enrol t))
+        → v .tablet .0 ≡ t .0 → ⊥
     unfolding moves
     enrol-not-listed d v i e =
-        true-false (sym (moved-is (g .tablets) (after p g (Enrol t) .tablets) v i .was) ∙ ap (has (g .tablets)) e ∙ told-is p m g (Enrol t) d)
+        true-false (sym (moved-is (g .tablets) (after p g (Enrol t) .tablets) v i .was) ∙ ap (has (g .tablets)) e
+        ∙ told-is p m g (Enrol t) d)
 
-    pub withdraw-not-listed : isDone (refusal p m g (Withdraw t)) ≡ true → t .0 < 2 ^ 32 → (v : Move) → Listed v (moves p g (Withdraw t)) → v .tablet .0 ≡ t .0 → ⊥
+    pub withdraw-not-listed : isDone (refusal p m g (Withdraw t)) ≡ true → t .0 < 2 ^ 32 → (v : Move)
+        → Listed v (moves p g (Withdraw t)) → v .tablet .0 ≡ t .0 → ⊥
     unfolding subject
     withdraw-not-listed d small v i e =
         true-false

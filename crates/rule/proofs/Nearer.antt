@@ -28,7 +28,8 @@ sub-in (keep s) t (inr i) = inr (sub-in s t i)
 sub-in (skip s) t i = inr (sub-in s t i)
 
 -- what rises and is contained is the other with some left out
-sub-of : (us ts : List ℕ) (low : ℕ) → Rising low us → (low′ : ℕ) → Rising low′ ts → ((t : ℕ) → In t ts → In t us) → Sub ts us
+sub-of : (us ts : List ℕ) (low : ℕ) → Rising low us → (low′ : ℕ) → Rising low′ ts → ((t : ℕ) → In t ts → In t us)
+    → Sub ts us
 sub-of [] [] low up low′ up′ h = done
 sub-of [] (t ∷ ts) low up low′ up′ h = absurd (h t (inl refl))
 sub-of (u ∷ us) [] low up low′ up′ h = skip (sub-of us [] u (up .1) low′ tt (λ t i. absurd i))
@@ -36,7 +37,8 @@ sub-of (u ∷ us) (t ∷ ts) low up low′ up′ h =
     split (eqb t u)
     (λ p.
     let e : t ≡ u = eqb-true t u p in
-    let w : Sub ts us = sub-of us ts u (up .1) t (up′ .1) (λ s i. in-rest u us s (λ (x : s ≡ u). omega (arith, rising-in t ts s (up′ .1) i)) (h s (inr i))) in
+    let w : Sub ts us = sub-of us ts u (up .1) t (up′ .1)
+    (λ s i. in-rest u us s (λ (x : s ≡ u). omega (arith, rising-in t ts s (up′ .1) i)) (h s (inr i))) in
     rw e (keep w))
     (λ p.
     let l : u < t = rising-in u us t (up .1) (in-rest u us t (eqb-false t u p) (h t (inl refl))) in
@@ -82,8 +84,10 @@ module _ (key : ℕ → ℕ → ℕ) (Ok : ℕ → Type 0) (apart : (t r q : ℕ
       split (eqb c₂ r)
       (λ p. split (eqb c₁ r)
       (λ s. omega (arith, m r, rw s at (held-less c₁ rs₁ r), rw p at (held-less c₂ rs₂ r)))
-      (λ s. let z : held rs₁ r ≡ 0 = none-there rs₁ rs₂ t c₁ c₂ b₁ b₂ m ok r (eqb-true c₂ r p) (eqb-false c₁ r s) in omega (arith, less-le c₁ rs₁ r)))
-      (λ p. let z : held (less c₂ rs₂) r ≡ held rs₂ r - 0 = rw p at (held-less c₂ rs₂ r) in omega (arith, less-le c₁ rs₁ r, m r))
+      (λ s. let z : held rs₁ r ≡ 0 = none-there rs₁ rs₂ t c₁ c₂ b₁ b₂ m ok r (eqb-true c₂ r p)
+      (eqb-false c₁ r s) in omega (arith, less-le c₁ rs₁ r)))
+      (λ p. let z : held (less c₂ rs₂) r ≡ held rs₂ r - 0 = rw p at (held-less c₂ rs₂ r) in omega
+      (arith, less-le c₁ rs₁ r, m r))
 
   main : {ts us : List ℕ} → Sub ts us → (rs₁ rs₂ : List Entry)
       → ((r : ℕ) → held rs₁ r ≤ held rs₂ r) → ((r : ℕ) → 0 < held rs₂ r → Ok r)
@@ -101,7 +105,8 @@ module _ (key : ℕ → ℕ → ℕ) (Ok : ℕ → Type 0) (apart : (t r q : ℕ
       let b₂ : Best (key t) rs₂ (orZero (choose (key t) rs₂)) = pick rs₂ t (omega arith) in
       let q : t < s = rising-in t us s (up .1) (sub-in w s i) in
       simp beside-other
-      (main w _ _ (both rs₁ rs₂ t _ _ b₁ b₂ m ok) (λ r h. ok r (omega (arith, less-le (orZero (choose (key t) rs₂)) rs₂ r)))
+      (main w _ _ (both rs₁ rs₂ t _ _ b₁ b₂ m ok)
+      (λ r h. ok r (omega (arith, less-le (orZero (choose (key t) rs₂)) rs₂ r)))
       (omega (arith, total-less _ rs₁ (b₁ .room))) (omega (arith, total-less _ rs₂ (b₂ .room))) t (up .1) s i)
   main (skip {u = u} {ts = ts} {us = us} w) rs₁ rs₂ m ok h₁ h₂ low up s i =
       let b₁ : Best (key u) rs₁ (orZero (choose (key u) rs₁)) = pick rs₁ u (omega arith) in

@@ -81,7 +81,8 @@ module _ (p : Positions) (t : ℕ) where
   in-queued e (y ∷ l) x =
       split (sooner p t (e .number) (y .number))
       (λ s. rw (s, queued) (λ i. i))
-      (λ s. rw (s, queued) (λ i. ⊎-elim (λ u. inr (inl u)) (λ j. ⊎-elim (λ u. inl u) (λ v. inr (inr v)) (in-queued e l x j)) i))
+      (λ s. rw (s, queued) (λ i. ⊎-elim (λ u. inr (inl u))
+      (λ j. ⊎-elim (λ u. inl u) (λ v. inr (inr v)) (in-queued e l x j)) i))
 
   queued-in : (e : Entry) (l : List Entry) (x : Entry) → Among x (e ∷ l) → Among x (queued p t e l)
   unfolding queued
@@ -89,7 +90,8 @@ module _ (p : Positions) (t : ℕ) where
   queued-in e (y ∷ l) x =
       split (sooner p t (e .number) (y .number))
       (λ s. rw (s, queued) (λ i. i))
-      (λ s. rw (s, queued) (λ i. ⊎-elim (λ u. inr (queued-in e l x (inl u))) (λ j. ⊎-elim (λ u. inl u) (λ v. inr (queued-in e l x (inr v))) j) i))
+      (λ s. rw (s, queued) (λ i. ⊎-elim (λ u. inr (queued-in e l x (inl u)))
+      (λ j. ⊎-elim (λ u. inl u) (λ v. inr (queued-in e l x (inr v))) j) i))
 
   pub order-in : (l : List Entry) (x : Entry) → Among x (order p t l) → Among x l
   unfolding order
@@ -109,13 +111,19 @@ module _ (p : Positions) (t : ℕ) where
       sooner-key p t (e .number) (y .number) (small e (inl refl)) (small y (inr (inl refl))) in
       split (sooner p t (e .number) (y .number))
       (λ s.
-      let h : key p t (e .number) < key p t (y .number) = ltb-true (key p t (e .number)) (key p t (y .number)) (sym c ∙ s) in
-      rw (s, queued)
-      (λ x i. ⊎-elim (λ u. omega (arith, ap (λ (z : Entry). key p t (z .number)) u)) (λ j. omega (arith, up .0 x j)) i, up))
-      (λ s.
-      let h : key p t (y .number) ≤ key p t (e .number) = ltb-false (key p t (e .number)) (key p t (y .number)) (sym c ∙ s) in
+      let h : key p t (e .number) < key p t (y .number) = ltb-true (key p t (e .number)) (key p t (y .number))
+      (sym c ∙ s) in
       rw (s, queued) (
-        λ x i. ⊎-elim (λ u. omega (arith, ap (λ (z : Entry). key p t (z .number)) u)) (λ j. up .0 x j) (in-queued e l x i),
+        λ x i. ⊎-elim (λ u. omega (arith, ap (λ (z : Entry). key p t (z .number)) u))
+            (λ j. omega (arith, up .0 x j)) i,
+        up,
+      ))
+      (λ s.
+      let h : key p t (y .number) ≤ key p t (e .number) = ltb-false (key p t (e .number)) (key p t (y .number))
+      (sym c ∙ s) in
+      rw (s, queued) (
+        λ x i. ⊎-elim (λ u. omega (arith, ap (λ (z : Entry). key p t (z .number)) u)) (λ j. up .0 x j)
+            (in-queued e l x i),
         queued-sorted e l (λ x i. small x (⊎-elim (λ u. inl u) (λ j. inr (inr j)) i)) (up .1),
       ))
 
@@ -123,4 +131,5 @@ module _ (p : Positions) (t : ℕ) where
   unfolding order
   order-sorted [] small = tt
   order-sorted (e ∷ l) small =
-      queued-sorted e (order p t l) (λ x i. small x (⊎-elim (λ u. inl u) (λ j. inr (order-in l x j)) i)) (order-sorted l (λ x i. small x (inr i)))
+      queued-sorted e (order p t l) (λ x i. small x (⊎-elim (λ u. inl u) (λ j. inr (order-in l x j)) i))
+      (order-sorted l (λ x i. small x (inr i)))

@@ -61,7 +61,8 @@ module _ (n v : ℕ) where
   put-others [] = others-none n []
   put-others (x ∷ es) =
       split (eqb (x .number) n)
-      (λ s. rw (s, put) (others-then (others-back (others-own n x es (eqb-true (x .number) n s))) (others-own n (entry n v) es refl)))
+      (λ s. rw (s, put) (others-then (others-back (others-own n x es (eqb-true (x .number) n s)))
+      (others-own n (entry n v) es refl)))
       (λ s. rw (s, put) (others-under x (put-others es)))
 
   -- the entry itself
@@ -103,4 +104,5 @@ pub same-there : (es fs : List Entry) → numbers es ≡ numbers fs → (n : ℕ
 same-there es fs e n =
     split (has es n)
     (λ s. s ∙ sym (in-has fs n (rw e at (has-in es n s))))
-    (λ s. split (has fs n) (λ u. absurd (true-false (sym (in-has es n (rw (← e) at (has-in fs n u))) ∙ s))) (λ u. s ∙ sym u))
+    (λ s. split (has fs n) (λ u. absurd (true-false (sym (in-has es n (rw (← e) at (has-in fs n u))) ∙ s)))
+    (λ u. s ∙ sym u))

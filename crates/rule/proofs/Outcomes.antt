@@ -38,7 +38,8 @@ use Rattle.rule.proofs.Accepted.{after-is}
 
 -- ---- an enrolment
 
-module _ (p : Positions) (g : Ring) (r : Right p g) (t : TabletNumber) (some-number : 0 < t .0) (new : In (t .0) (numbers (g .tablets)) → ⊥) (room : length (g .tablets) < total (g .relays)) where
+module _ (p : Positions) (g : Ring) (r : Right p g) (t : TabletNumber) (some-number : 0 < t .0)
+    (new : In (t .0) (numbers (g .tablets)) → ⊥) (room : length (g .tablets) < total (g .relays)) where
   abbrev x : ℕ
   x = t .0
 
@@ -56,7 +57,8 @@ module _ (p : Positions) (g : Ring) (r : Right p g) (t : TabletNumber) (some-num
         (inl (unfold newcomer in (record { walker = refl; from = refl; chain = refl })))
         (distinct-order p x (g .relays) (distinct-rising (g .relays) 0 (r .relays .up))) h
 
-    pub enrol-after : after p g (Enrol t) .tablets ≡ seated (enrol-chain .rest) (insert x (enrol-chain .seat) (g .tablets))
+    pub enrol-after : after p g (Enrol t) .tablets ≡ seated (enrol-chain .rest)
+        (insert x (enrol-chain .seat) (g .tablets))
     unfolding edited
     enrol-after =
         after-is p g (Enrol t) (r .relays) (omega (arith, length-insert x 0 (g .tablets)))
@@ -66,7 +68,8 @@ module _ (p : Positions) (g : Ring) (r : Right p g) (t : TabletNumber) (some-num
     pub enrol-moves : moves p g (Enrol t) ≡ enrol-chain .rest
     unfolding moves edited
     enrol-moves =
-        ap (moved (g .tablets)) (after-is p g (Enrol t) (r .relays) (omega (arith, length-insert x 0 (g .tablets))) ∙ sym (turn-placement p g r x some-number new f h))
+        ap (moved (g .tablets)) (after-is p g (Enrol t) (r .relays) (omega (arith, length-insert x 0 (g .tablets)))
+        ∙ sym (turn-placement p g r x some-number new f h))
         ∙ turn-moves (g .tablets) (r .tablets .up) x some-number new (chainTo f) enrol-chain
 
     -- the newcomer's relay is where it sat down first
@@ -77,28 +80,40 @@ module _ (p : Positions) (g : Ring) (r : Right p g) (t : TabletNumber) (some-num
         up₁ : Rising 0 (numbers (insert x (enrol-chain .seat) (g .tablets)))
         up₁ = rising-insert x (enrol-chain .seat) (g .tablets) 0 some-number (r .tablets .up) new
 
-        seat-stays : besideOf (seated (enrol-chain .rest) (insert x (enrol-chain .seat) (g .tablets))) x ≡ enrol-chain .seat
+        seat-stays : besideOf (seated (enrol-chain .rest) (insert x (enrol-chain .seat) (g .tablets))) x
+            ≡ enrol-chain .seat
         seat-stays =
             sits-beside (seated (enrol-chain .rest) (insert x (enrol-chain .seat) (g .tablets))) 0 x (enrol-chain .seat)
             (rw (numbers-seated (enrol-chain .rest) (insert x (enrol-chain .seat) (g .tablets))) up₁)
-            (seated-other (enrol-chain .rest) x (enrol-chain .up) (insert x (enrol-chain .seat) (g .tablets)) x (enrol-chain .seat) (omega arith)
+            (seated-other (enrol-chain .rest) x (enrol-chain .up) (insert x (enrol-chain .seat) (g .tablets)) x
+            (enrol-chain .seat) (omega arith)
             (insert-sits x (enrol-chain .seat) (g .tablets) x (enrol-chain .seat) (inl (refl, refl))))
 
   -- every relay ahead of the first with room is full
-  ahead-full : (l : List Entry) → ((e : Entry) → Among e l → Among e (g .relays)) → count (full (g .tablets)) (upTo (hasRoom (g .tablets)) l) ≡ length (upTo (hasRoom (g .tablets)) l)
+  ahead-full : (l : List Entry) → ((e : Entry) → Among e l → Among e (g .relays))
+      → count (full (g .tablets)) (upTo (hasRoom (g .tablets)) l) ≡ length (upTo (hasRoom (g .tablets)) l)
   ahead-full [] inside = unfold count upTo in refl
   ahead-full (e ∷ l) inside =
       split (hasRoom (g .tablets) e)
-      (λ o. ap (count (full (g .tablets))) (upTo-stop (hasRoom (g .tablets)) e l o) ∙ unfold count in refl ∙ ap length (sym (upTo-stop (hasRoom (g .tablets)) e l o)))
+      (λ o. ap (count (full (g .tablets))) (upTo-stop (hasRoom (g .tablets)) e l o) ∙ unfold count in refl
+      ∙ ap length (sym (upTo-stop (hasRoom (g .tablets)) e l o)))
       (λ o. ap (count (full (g .tablets))) (upTo-go (hasRoom (g .tablets)) e l o)
-      ∙ one-more e (upTo (hasRoom (g .tablets)) l) (shut e (inside e (inl refl)) o) (ahead-full l (λ z j. inside z (inr j)))
+      ∙ one-more e (upTo (hasRoom (g .tablets)) l) (shut e (inside e (inl refl)) o)
+      (ahead-full l (λ z j. inside z (inr j)))
       ∙ ap length (sym (upTo-go (hasRoom (g .tablets)) e l o)))
     where
       shut : (e : Entry) → Among e (g .relays) → hasRoom (g .tablets) e ≡ false → full (g .tablets) e ≡ true
       shut e i o = unfold full hasRoom in (eq-eqb (load (g .tablets) (e .number)) (e .beside)
-          (omega (arith, ltb-false (load (g .tablets) (e .number)) (e .beside) o, right-loads p g r (e .number), among-held (g .relays) 0 (r .relays .up) e i)))
+          (omega (
+            arith,
+            ltb-false (load (g .tablets) (e .number)) (e .beside) o,
+            right-loads p g r
+                (e .number),
+            among-held (g .relays) 0 (r .relays .up) e i,
+          )))
 
-      one-more : (e : Entry) (l : List Entry) → full (g .tablets) e ≡ true → count (full (g .tablets)) l ≡ length l → count (full (g .tablets)) (e ∷ l) ≡ length (e ∷ l)
+      one-more : (e : Entry) (l : List Entry) → full (g .tablets) e ≡ true → count (full (g .tablets)) l ≡ length l
+          → count (full (g .tablets)) (e ∷ l) ≡ length (e ∷ l)
       one-more e l f h = unfold count in (rw f (omega arith))
 
   pub enrol-passed : passed p g (Enrol t) ≡ length (upTo (hasRoom (g .tablets)) (order p (t .0) (g .relays)))
@@ -112,7 +127,13 @@ module _ (p : Positions) (g : Ring) (r : Right p g) (t : TabletNumber) (there : 
   hole-moves = holes p (besideOf (g .tablets) (t .0)) (delete (t .0) (g .tablets))
 
   less-one : length (delete (t .0) (g .tablets)) ≤ total (g .relays)
-  less-one = omega (arith, r .enough, length-delete (t .0) (besideOf (g .tablets) (t .0)) (g .tablets) 0 (r .tablets .up) (has-sits (g .tablets) 0 (t .0) (r .tablets .up) there))
+  less-one =
+      omega (
+        arith,
+        r .enough,
+        length-delete (t .0) (besideOf (g .tablets) (t .0)) (g .tablets) 0 (r .tablets .up)
+            (has-sits (g .tablets) 0 (t .0) (r .tablets .up) there),
+      )
 
   pub withdraw-after : after p g (Withdraw t) .tablets ≡ seated hole-moves (delete (t .0) (g .tablets))
   unfolding edited
@@ -120,7 +141,9 @@ module _ (p : Positions) (g : Ring) (r : Right p g) (t : TabletNumber) (there : 
 
   pub withdraw-moves : moves p g (Withdraw t) ≡ hole-moves
   unfolding moves
-  withdraw-moves = ap (moved (g .tablets)) withdraw-after ∙ holes-moves p (g .tablets) (r .tablets .up) (t .0) (besideOf (g .tablets) (t .0))
+  withdraw-moves =
+      ap (moved (g .tablets)) withdraw-after ∙ holes-moves p (g .tablets) (r .tablets .up) (t .0)
+      (besideOf (g .tablets) (t .0))
 
 -- ---- a find
 
@@ -131,4 +154,6 @@ module _ (p : Positions) (g : Ring) (r : Right p g) (t : TabletNumber) where
 
   pub find-moves : moves p g (Find t) ≡ []
   unfolding moves
-  find-moves = ap (moved (g .tablets)) find-after ∙ moved-none (g .tablets) (g .tablets) (λ n v i. sits-beside (g .tablets) 0 n v (r .tablets .up) i)
+  find-moves =
+      ap (moved (g .tablets)) find-after ∙ moved-none (g .tablets) (g .tablets)
+      (λ n v i. sits-beside (g .tablets) 0 n v (r .tablets .up) i)

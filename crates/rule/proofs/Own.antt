@@ -42,9 +42,12 @@ Told g (Find t) = has (g .tablets) (t .0) ≡ true
 
 told : (m : Lent) (g : Ring) (c : Call) → isDone (firstBar (wrongNumbers m g c)) ≡ true → Told g c
 unfolding wrongNumbers isDone
-told m g (Add r l) h = bar-passed _ ThereAlready _ refl (bar-passed _ TooLarge _ refl (bar-passed _ NumberZero _ refl h .1) .1) .0
+told m g (Add r l) h =
+    bar-passed _ ThereAlready _ refl (bar-passed _ TooLarge _ refl (bar-passed _ NumberZero _ refl h .1) .1) .0
 told m g (Remove r) h = not-false _ (bar-passed _ NotThere _ refl (bar-passed _ NumberZero _ refl h .1) .0)
-told m g (Set r l) h = not-false _ (bar-passed _ NotThere _ refl (bar-passed _ TooLarge _ refl (bar-passed _ NumberZero _ refl h .1) .1) .0)
+told m g (Set r l) h =
+    not-false _ (bar-passed _ NotThere _ refl
+    (bar-passed _ TooLarge _ refl (bar-passed _ NumberZero _ refl h .1) .1) .0)
 told m g (Enrol t) h = bar-passed _ ThereAlready _ refl (bar-passed _ NumberZero _ refl h .1) .0
 told m g (Withdraw t) h = not-false _ (bar-passed _ NotThere _ refl (bar-passed _ NumberZero _ refl h .1) .0)
 told m g (Find t) h = not-false _ (bar-passed _ NotThere _ refl (bar-passed _ NumberZero _ refl h .1) .0)
@@ -54,12 +57,16 @@ told m g (Find t) h = not-false _ (bar-passed _ NotThere _ refl (bar-passed _ Nu
 module _ (p : Positions) (m : Lent) (g : Ring) where
   -- an accepted call's sets are the edited ones
   pub edit-is : (c : Call) → isDone (refusal p m g c) ≡ true → subject c < 2 ^ 32 → Edited g c
-  edit-is c d s = let a : Accepted p m g c = accepted-is p m g c d in edited-tables p m g c (right-is p g (a .tables)) (a .numbers) s
+  edit-is c d s =
+      let a : Accepted p m g c = accepted-is p m g c d in edited-tables p m g c (right-is p g (a .tables))
+      (a .numbers) s
 
-  pub tablets-are : (c : Call) → isDone (refusal p m g c) ≡ true → subject c < 2 ^ 32 → numbers (after p g c .tablets) ≡ numbers (edited g c .tablets)
+  pub tablets-are : (c : Call) → isDone (refusal p m g c) ≡ true → subject c < 2 ^ 32 → numbers (after p g c .tablets)
+      ≡ numbers (edited g c .tablets)
   tablets-are c d s = after-sets p g c (edit-is c d s) (accepted-is p m g c d .enough)
 
-  tablet-there : (c : Call) → isDone (refusal p m g c) ≡ true → subject c < 2 ^ 32 → (n : ℕ) → has (after p g c .tablets) n ≡ has (edited g c .tablets) n
+  tablet-there : (c : Call) → isDone (refusal p m g c) ≡ true → subject c < 2 ^ 32 → (n : ℕ)
+      → has (after p g c .tablets) n ≡ has (edited g c .tablets) n
   tablet-there c d s n = same-there (after p g c .tablets) (edited g c .tablets) (tablets-are c d s) n
 
   pub told-is : (c : Call) → isDone (refusal p m g c) ≡ true → Told g c
@@ -70,10 +77,21 @@ module _ (p : Positions) (m : Lent) (g : Ring) where
 
   pub own-entry : (c : Call) → isDone (refusal p m g c) ≡ true → subject c < 2 ^ 32 → Changed g c (after p g c)
   unfolding after edited
-  own-entry (Add r l) d s =
-      (insert-others (r .0) l (g .relays), (insert-own (r .0) l (g .relays) (told-is (Add r l) d), tablets-are (Add r l) d s))
-  own-entry (Remove r) d s =
-      (delete-others (r .0) (g .relays), (delete-own (r .0) (g .relays) (right-before (Remove r) d .relays .up), tablets-are (Remove r) d s))
+  own-entry (Add r l) d s = (
+    insert-others (r .0) l (g .relays),
+    (
+      insert-own (r .0) l (g .relays) (told-is (Add r l) d),
+      tablets-are
+          (Add r l) d s,
+    ),
+  )
+  own-entry (Remove r) d s = (
+    delete-others (r .0) (g .relays),
+    (
+      delete-own (r .0) (g .relays) (right-before (Remove r) d .relays .up),
+      tablets-are (Remove r) d s,
+    ),
+  )
   own-entry (Set r l) d s =
       (put-others (r .0) l (g .relays), (put-own (r .0) l (g .relays) (told-is (Set r l) d), tablets-are (Set r l) d s))
   own-entry (Enrol t) d s = (
@@ -94,14 +112,23 @@ module _ (p : Positions) (m : Lent) (g : Ring) where
 
   -- ---- freed places
 
-  pub withdraw-frees : (t : TabletNumber) → t .0 < 2 ^ 32 → isDone (refusal p m g (Withdraw t)) ≡ true → suc (length (after p g (Withdraw t) .tablets)) ≡ length (g .tablets)
+  pub withdraw-frees : (t : TabletNumber) → t .0 < 2 ^ 32 → isDone (refusal p m g (Withdraw t)) ≡ true
+      → suc (length (after p g (Withdraw t) .tablets)) ≡ length (g .tablets)
   unfolding edited subject
   withdraw-frees t small d =
       let up : Rising 0 (numbers (g .tablets)) = right-before (Withdraw t) d .tablets .up in
-      omega (arith, after-length p g (Withdraw t) (edit-is (Withdraw t) d small) (accepted-is p m g (Withdraw t) d .enough), length-delete (t .0) (besideOf (g .tablets) (t .0)) (g .tablets) 0 up (has-sits (g .tablets) 0 (t .0) up (told-is (Withdraw t) d)))
+      omega (
+        arith,
+        after-length p g (Withdraw t) (edit-is (Withdraw t) d small)
+            (accepted-is p m g (Withdraw t) d .enough),
+        length-delete (t .0) (besideOf (g .tablets) (t .0)) (g .tablets) 0 up
+            (has-sits (g .tablets) 0 (t .0) up (told-is (Withdraw t) d)),
+      )
 
-  pub remove-frees : (r : RelayNumber) → isDone (refusal p m g (Remove r)) ≡ true → suc (length (after p g (Remove r) .relays)) ≡ length (g .relays)
+  pub remove-frees : (r : RelayNumber) → isDone (refusal p m g (Remove r)) ≡ true
+      → suc (length (after p g (Remove r) .relays)) ≡ length (g .relays)
   unfolding after edited
   remove-frees r d =
       let up : Rising 0 (numbers (g .relays)) = right-before (Remove r) d .relays .up in
-      sym (length-delete (r .0) (besideOf (g .relays) (r .0)) (g .relays) 0 up (has-sits (g .relays) 0 (r .0) up (told-is (Remove r) d)))
+      sym (length-delete (r .0) (besideOf (g .relays) (r .0)) (g .relays) 0 up
+      (has-sits (g .relays) 0 (r .0) up (told-is (Remove r) d)))

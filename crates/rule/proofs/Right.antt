@@ -37,8 +37,11 @@ rising-up low [] t = tt
 rising-up low (e ∷ es) t =
     let a : Bool = ltb low (e .number) in
     let b : Bool = leb (e .number) 4294967295 in
-    let c : Bool = rising (e .number) es in
-    (ltb-true low (e .number) (and-left a (b && c) t), rising-up (e .number) es (and-right b c (and-right a (b && c) t)))
+    let c : Bool = rising (e .number) es in (
+      ltb-true low (e .number) (and-left a (b && c) t),
+      rising-up (e .number) es
+          (and-right b c (and-right a (b && c) t)),
+    )
 
 rising-small : (low : ℕ) (es : List Entry) → rising low es ≡ true → Small es
 unfolding rising
@@ -48,7 +51,12 @@ rising-small low (e ∷ es) t x i =
     let b : Bool = leb (e .number) 4294967295 in
     let c : Bool = rising (e .number) es in
     ⊎-elim
-    (λ u. omega (arith, leb-true (e .number) 4294967295 (and-left b c (and-right a (b && c) t)), ap (λ (z : Entry). z .number) u))
+    (λ u. omega (
+      arith,
+      leb-true (e .number) 4294967295 (and-left b c (and-right a (b && c) t)),
+      ap
+          (λ (z : Entry). z .number) u,
+    ))
     (λ j. rising-small (e .number) es (and-right b c (and-right a (b && c) t)) x j)
     i
 
@@ -92,11 +100,13 @@ length-numbers [] = refl
 length-numbers (e ∷ es) = ap suc (length-numbers es)
 
 -- a placement that is there is the filling, and the limits suffice
-pub placed-is : (p : Positions) (rs : List Entry) → Table rs → (ts : List ℕ) (placed : List Entry) → placement p rs ts ≡ some placed
+pub placed-is : (p : Positions) (rs : List Entry) → Table rs → (ts : List ℕ) (placed : List Entry) → placement p rs ts
+    ≡ some placed
     → (length ts ≤ total rs) × (placed ≡ fill (key p) rs ts)
 placed-is p rs t ts placed e =
     split (ltb (total rs) (length ts))
-    (λ s. absurd (option-apart placed (sym (placement-none p rs 0 (t .up) (t .small) ts (ltb-true (total rs) (length ts) s)) ∙ e)))
+    (λ s. absurd (option-apart placed (sym (placement-none p rs 0 (t .up) (t .small) ts
+    (ltb-true (total rs) (length ts) s)) ∙ e)))
     (λ s. let h : length ts ≤ total rs = ltb-false (total rs) (length ts) s in
     (h, option-some placed (fill (key p) rs ts) (sym e ∙ placement-fill p rs 0 (t .up) (t .small) ts h)))
 
@@ -117,7 +127,8 @@ right-is p g t =
     let rs : Table (g .relays) = table-is (g .relays) (and-left k₁ (k₂ && (k₃ && k₄)) t) in
     let e : placement p (g .relays) (numbers (g .tablets)) ≡ some (g .tablets) =
     just-is (placement p (g .relays) (numbers (g .tablets))) (g .tablets) (and-right k₃ k₄ t₂) in
-    let d : (length (numbers (g .tablets)) ≤ total (g .relays)) × (g .tablets ≡ fill (key p) (g .relays) (numbers (g .tablets))) =
+    let d : (length (numbers (g .tablets)) ≤ total (g .relays))
+    × (g .tablets ≡ fill (key p) (g .relays) (numbers (g .tablets))) =
     placed-is p (g .relays) rs (numbers (g .tablets)) (g .tablets) e in
     record {
       relays = rs;
@@ -134,7 +145,8 @@ right-from p g r =
       table-from (g .relays) (r .relays),
       r .limits,
       table-from (g .tablets) (r .tablets),
-      placement-fill p (g .relays) 0 (r .relays .up) (r .relays .small) (numbers (g .tablets)) (omega (arith, r .enough, length-numbers (g .tablets))),
+      placement-fill p (g .relays) 0 (r .relays .up) (r .relays .small) (numbers (g .tablets))
+          (omega (arith, r .enough, length-numbers (g .tablets))),
     )
     (ap (λ (l : List Entry). same l (g .tablets)) (sym (r .ruled)) ∙ same-from (g .tablets))
 
@@ -142,22 +154,27 @@ right-from p g r =
 
 module _ (p : Positions) (rs : List Entry) (t : Table rs) where
   pub held-small : (r : ℕ) → 0 < held rs r → r < 2 ^ 32
-  held-small r h = let x : (e : Entry) × Among e rs × (e .number ≡ r) = held-among rs r h in omega (arith, t .small (x .0) (x .1), x .2)
+  held-small r h =
+      let x : (e : Entry) × Among e rs × (e .number ≡ r) = held-among rs r h in omega
+      (arith, t .small (x .0) (x .1), x .2)
 
 pub right-stable : (p : Positions) (g : Ring) → Right p g → Stable (key p) (g .relays) (g .tablets)
 right-stable p g r =
     rw (← r .ruled) at
-    (stable-fill (key p) (numbers (g .tablets)) 0 (g .relays) (r .tablets .up) (omega (arith, r .enough, length-numbers (g .tablets))))
+    (stable-fill (key p) (numbers (g .tablets)) 0 (g .relays) (r .tablets .up)
+    (omega (arith, r .enough, length-numbers (g .tablets))))
 
 pub right-loads : (p : Positions) (g : Ring) → Right p g → (q : ℕ) → load (g .tablets) q ≤ held (g .relays) q
 right-loads p g r q = load-held (key p) (g .tablets) 0 (g .relays) (r .tablets .up) (right-stable p g r) q
 
 -- a stable placement has no more tablets than the limits allow
-stable-enough : (k : ℕ → ℕ → ℕ) (ts : List Entry) (low : ℕ) (rs : List Entry) → Rising low (numbers ts) → Stable k rs ts → length ts ≤ total rs
+stable-enough : (k : ℕ → ℕ → ℕ) (ts : List Entry) (low : ℕ) (rs : List Entry) → Rising low (numbers ts) → Stable k rs ts
+    → length ts ≤ total rs
 unfolding numbers
 stable-enough k [] low rs up st = omega arith
 stable-enough k (e ∷ ts) low rs up st =
-    let b : Best (k (e .number)) rs (e .beside) = head-fair k rs e ts (up .1) (st (e .number) (e .beside) (inl (refl, refl))) in
+    let b : Best (k (e .number)) rs (e .beside) = head-fair k rs e ts (up .1)
+    (st (e .number) (e .beside) (inl (refl, refl))) in
     let ih : length ts ≤ total (less (e .beside) rs) =
     stable-enough k ts (e .number) (less (e .beside) rs) (up .1)
     (λ n v i. tail-fair k rs e ts n v (sits-above ts (e .number) n v (up .1) i) (st n v (inr i))) in
@@ -171,5 +188,6 @@ stable-right p g rs l ts st =
       limits = l;
       tablets = ts;
       enough = stable-enough (key p) (g .tablets) 0 (g .relays) (ts .up) st;
-      ruled = fill-stable (key p) (λ r. r < 2 ^ 32) (λ t r q. key-apart p t r q) (g .tablets) 0 (g .relays) (ts .up) (held-small p (g .relays) rs) st;
+      ruled = fill-stable (key p) (λ r. r < 2 ^ 32) (λ t r q. key-apart p t r q) (g .tablets) 0 (g .relays) (ts .up)
+          (held-small p (g .relays) rs) st;
     }

@@ -31,10 +31,13 @@ held-less c (e ∷ es) q =
     (λ p.
     let u : eqb (e .number) q ≡ eqb c q = eqb-same (e .number) c q (eqb-true (e .number) c p) in
     split (ltb 0 (e .beside))
-    (λ r. rw (p, r, u) (split (eqb c q) (λ s. rw s (omega (arith, ltb-true 0 (e .beside) r))) (λ s. rw s (omega arith))))
-    (λ r. rw (p, r, u) (split (eqb c q) (λ s. rw s (omega (arith, ltb-false 0 (e .beside) r, rw s at ih))) (λ s. rw s (omega (arith, rw s at ih))))))
+    (λ r. rw (p, r, u) (split (eqb c q) (λ s. rw s (omega (arith, ltb-true 0 (e .beside) r)))
+    (λ s. rw s (omega arith))))
+    (λ r. rw (p, r, u) (split (eqb c q) (λ s. rw s (omega (arith, ltb-false 0 (e .beside) r, rw s at ih)))
+    (λ s. rw s (omega (arith, rw s at ih))))))
     (λ p. rw p (split (eqb c q)
-    (λ s. rw (s, ne-eqb (e .number) q (λ (w : e .number ≡ q). eqb-false (e .number) c p (w ∙ sym (eqb-true c q s)))) (omega (arith, rw s at ih)))
+    (λ s. rw (s, ne-eqb (e .number) q (λ (w : e .number ≡ q). eqb-false (e .number) c p (w ∙ sym (eqb-true c q s))))
+    (omega (arith, rw s at ih)))
     (λ s. rw s (omega (arith, rw s at ih)))))
 
 -- ---- one entry more
@@ -47,7 +50,8 @@ pub held-there : (e : Entry) (es : List Entry) (q : ℕ) → held es q ≤ held 
 unfolding held
 held-there e es q = omega arith
 
-pub held-cases : (e : Entry) (es : List Entry) (q : ℕ) → 0 < held (e ∷ es) q → ((e .number ≡ q) × (0 < e .beside)) ⊎ (0 < held es q)
+pub held-cases : (e : Entry) (es : List Entry) (q : ℕ) → 0 < held (e ∷ es) q → ((e .number ≡ q) × (0 < e .beside)) ⊎
+    (0 < held es q)
 unfolding held
 held-cases e es q h =
     split (eqb (e .number) q)
@@ -71,16 +75,19 @@ some-none a p = let z : _≡_ {A = ℕ} 0 1 = cc in omega arith
 
 module _ (k : ℕ → ℕ) (e : Entry) (es : List Entry) where
   -- the entry is the best so far, and has room
-  taken : (b : Option ℕ) → 0 < e .beside → ((a : ℕ) → b ≡ some a → k (e .number) ≤ k a) → (r : Option ℕ) → Chosen k (some (e .number)) es r → Chosen k b (e ∷ es) r
+  taken : (b : Option ℕ) → 0 < e .beside → ((a : ℕ) → b ≡ some a → k (e .number) ≤ k a) → (r : Option ℕ)
+      → Chosen k (some (e .number)) es r → Chosen k b (e ∷ es) r
   taken b h m none w = absurd (some-none (e .number) (w .0))
   taken b h m (some c) w = (
-    inr (⊎-elim (λ p. omega (arith, held-here e es c (some-inj (e .number) c p))) (λ p. omega (arith, held-there e es c)) (w .0)),
+    inr (⊎-elim (λ p. omega (arith, held-here e es c (some-inj (e .number) c p)))
+        (λ p. omega (arith, held-there e es c)) (w .0)),
     λ q p. ⊎-elim (λ u. rw (← u .0) (w .2 (e .number) refl)) (λ u. w .1 q u) (held-cases e es q p),
     λ a p. omega (arith, w .2 (e .number) refl, m a p),
   )
 
   -- the entry has no room, or is no better
-  left : (b : Option ℕ) → (0 < e .beside → (a : ℕ) × (b ≡ some a) × (k a ≤ k (e .number))) → (r : Option ℕ) → Chosen k b es r → Chosen k b (e ∷ es) r
+  left : (b : Option ℕ) → (0 < e .beside → (a : ℕ) × (b ≡ some a) × (k a ≤ k (e .number))) → (r : Option ℕ)
+      → Chosen k b es r → Chosen k b (e ∷ es) r
   left b h none w = (
     w .0,
     λ q. split (ltb 0 (held (e ∷ es) q))
@@ -92,7 +99,8 @@ module _ (k : ℕ → ℕ) (e : Entry) (es : List Entry) where
   )
   left b h (some c) w = (
     ⊎-elim (λ p. inl p) (λ p. inr (omega (arith, held-there e es c))) (w .0),
-    λ q p. ⊎-elim (λ u. let v : (a : ℕ) × (b ≡ some a) × (k a ≤ k (e .number)) = h (u .1) in rw (← u .0) (omega (arith, w .2 (v .0) (v .1)))) (λ u. w .1 q u) (held-cases e es q p),
+    λ q p. ⊎-elim (λ u. let v : (a : ℕ) × (b ≡ some a) × (k a ≤ k (e .number)) = h (u .1) in rw (← u .0)
+        (omega (arith, w .2 (v .0) (v .1)))) (λ u. w .1 q u) (held-cases e es q p),
     w .2,
   )
 
@@ -105,7 +113,8 @@ module _ (k : ℕ → ℕ) (e : Entry) (es : List Entry) where
   step (some b) r =
       split (ltb 0 (e .beside))
       (λ p. split (ltb (k (e .number)) (k b))
-      (λ s. rw (p, s) (taken (some b) (ltb-true 0 (e .beside) p) (λ a q. rw (← some-inj b a q) (omega (arith, ltb-true (k (e .number)) (k b) s))) r))
+      (λ s. rw (p, s) (taken (some b) (ltb-true 0 (e .beside) p)
+      (λ a q. rw (← some-inj b a q) (omega (arith, ltb-true (k (e .number)) (k b) s))) r))
       (λ s. rw (p, s) (left (some b) (λ h. (b, refl, ltb-false (k (e .number)) (k b) s)) r)))
       (λ p. rw p (left (some b) (λ h. absurd (let z : e .beside ≤ 0 = ltb-false 0 (e .beside) p in omega arith)) r))
 
@@ -137,7 +146,11 @@ unfolding total
 total-some [] h = absurd (omega arith)
 total-some (e ∷ es) h =
     split (ltb 0 (e .beside))
-    (λ p. (e .number, (let z : 0 < e .beside = ltb-true 0 (e .beside) p in omega (arith, held-here e es (e .number) refl))))
+    (λ p. (
+      e .number,
+      (let z : 0 < e .beside = ltb-true 0 (e .beside) p in omega
+          (arith, held-here e es (e .number) refl)),
+    ))
     (λ p. let z : e .beside ≤ 0 = ltb-false 0 (e .beside) p in
     let v : (q : ℕ) × (0 < held es q) = total-some es (omega arith) in
     (v .0, omega (arith, held-there e es (v .0))))
@@ -149,5 +162,6 @@ total-less c (e ∷ es) h =
     split (eqb (e .number) c)
     (λ p. split (ltb 0 (e .beside))
     (λ r. rw (p, r) (omega (arith, ltb-true 0 (e .beside) r)))
-    (λ r. rw (p, r) (let z : e .beside ≤ 0 = ltb-false 0 (e .beside) r in omega (arith, total-less c es (omega (arith, rw p at h))))))
+    (λ r. rw (p, r) (let z : e .beside ≤ 0 = ltb-false 0 (e .beside) r in omega
+    (arith, total-less c es (omega (arith, rw p at h))))))
     (λ p. rw p (omega (arith, total-less c es (omega (arith, rw p at h)))))

@@ -34,7 +34,8 @@ in-insert m v [] t = λ i. i
 in-insert m v (e ∷ p) t =
     split (ltb m (e .number))
     (λ s. rw (s, insert) (λ i. i))
-    (λ s. rw (s, insert) (λ i. ⊎-elim (λ u. inr (inl u)) (λ j. ⊎-elim (λ u. inl u) (λ w. inr (inr w)) (in-insert m v p t j)) i))
+    (λ s. rw (s, insert) (λ i. ⊎-elim (λ u. inr (inl u))
+    (λ j. ⊎-elim (λ u. inl u) (λ w. inr (inr w)) (in-insert m v p t j)) i))
 
 pub insert-in : (m v : ℕ) (p : List Entry) (t : ℕ) → (t ≡ m) ⊎ In t (numbers p) → In t (numbers (insert m v p))
 unfolding numbers insert
@@ -42,7 +43,8 @@ insert-in m v [] t = λ i. i
 insert-in m v (e ∷ p) t =
     split (ltb m (e .number))
     (λ s. rw (s, insert) (λ i. i))
-    (λ s. rw (s, insert) (λ i. ⊎-elim (λ u. inr (insert-in m v p t (inl u))) (λ j. ⊎-elim (λ u. inl u) (λ w. inr (insert-in m v p t (inr w))) j) i))
+    (λ s. rw (s, insert) (λ i. ⊎-elim (λ u. inr (insert-in m v p t (inl u)))
+    (λ j. ⊎-elim (λ u. inl u) (λ w. inr (insert-in m v p t (inr w))) j) i))
 
 pub in-delete : (m : ℕ) (p : List Entry) (t : ℕ) → In t (numbers (delete m p)) → In t (numbers p)
 unfolding numbers delete
@@ -64,7 +66,8 @@ pub rising-low : (l : List ℕ) (low low′ : ℕ) → low′ ≤ low → Rising
 rising-low [] low low′ h up = tt
 rising-low (t ∷ l) low low′ h up = (omega (arith, up .0), up .1)
 
-pub rising-insert : (m v : ℕ) (p : List Entry) (low : ℕ) → low < m → Rising low (numbers p) → (In m (numbers p) → ⊥) → Rising low (numbers (insert m v p))
+pub rising-insert : (m v : ℕ) (p : List Entry) (low : ℕ) → low < m → Rising low (numbers p) → (In m (numbers p) → ⊥)
+    → Rising low (numbers (insert m v p))
 unfolding numbers insert
 rising-insert m v [] low h up n = (h, tt)
 rising-insert m v (e ∷ p) low h up n =
@@ -73,7 +76,8 @@ rising-insert m v (e ∷ p) low h up n =
     (λ s. rw (s, insert) (
       up .0,
       rising-insert m v p (e .number)
-          (let z : m ≡ e .number → ⊥ = λ x. n (inl x) in omega (arith, ltb-false m (e .number) s)) (up .1) (λ i. n (inr i)),
+          (let z : m ≡ e .number → ⊥ = λ x. n (inl x) in omega (arith, ltb-false m (e .number) s)) (up .1)
+          (λ i. n (inr i)),
     ))
 
 pub rising-delete : (m : ℕ) (p : List Entry) (low : ℕ) → Rising low (numbers p) → Rising low (numbers (delete m p))
@@ -99,7 +103,8 @@ in-least u us t h (inl p) = omega arith
 in-least u us t h (inr i) = omega (arith, rising-in u us t h i)
 
 -- two rising lists of the same numbers are one
-pub rising-ext : (l k : List ℕ) (low : ℕ) → Rising low l → Rising low k → ((t : ℕ) → In t l → In t k) → ((t : ℕ) → In t k → In t l) → l ≡ k
+pub rising-ext : (l k : List ℕ) (low : ℕ) → Rising low l → Rising low k → ((t : ℕ) → In t l → In t k)
+    → ((t : ℕ) → In t k → In t l) → l ≡ k
 rising-ext [] [] low u v f g = refl
 rising-ext [] (y ∷ k) low u v f g = absurd (g y (inl refl))
 rising-ext (x ∷ l) [] low u v f g = absurd (f x (inl refl))

@@ -30,7 +30,8 @@ lower-none (e ∷ p) low q n up h =
     (split (eqb (e .beside) q) (λ s. rw s) (λ s. rw s))
 
 -- the counts with one more in front
-lower-front : (e : Entry) (p : List Entry) (q n : ℕ) → e .number < n → lower (e ∷ p) q n ≡ cond (eqb (e .beside) q) 1 0 + lower p q n
+lower-front : (e : Entry) (p : List Entry) (q n : ℕ) → e .number < n → lower (e ∷ p) q n
+    ≡ cond (eqb (e .beside) q) 1 0 + lower p q n
 unfolding lower bit
 lower-front e p q n h = rw (lt-ltb (e .number) n h) (split (eqb (e .beside) q) (λ s. rw s) (λ s. rw s))
 
@@ -48,14 +49,16 @@ numbers-fill key (t ∷ ts) rs = ap (λ (l : List ℕ). t ∷ l) (numbers-fill k
 -- ---- the first tablet, and the others in the room that it leaves
 
 module _ (key : ℕ → ℕ → ℕ) (rs : List Entry) (e : Entry) (p : List Entry) where
-  fair-head : Rising (e .number) (numbers p) → Best (key (e .number)) rs (e .beside) → Fair key rs (e ∷ p) (e .number) (e .beside)
+  fair-head : Rising (e .number) (numbers p) → Best (key (e .number)) rs (e .beside)
+      → Fair key rs (e ∷ p) (e .number) (e .beside)
   fair-head up b =
       record {
         room = omega (arith, lower-first e p (e .beside) up, b .room);
         least = λ q h. b .least q (omega (arith, lower-first e p q up));
       }
 
-  pub head-fair : Rising (e .number) (numbers p) → Fair key rs (e ∷ p) (e .number) (e .beside) → Best (key (e .number)) rs (e .beside)
+  pub head-fair : Rising (e .number) (numbers p) → Fair key rs (e ∷ p) (e .number) (e .beside)
+      → Best (key (e .number)) rs (e .beside)
   head-fair up f =
       record {
         room = omega (arith, lower-first e p (e .beside) up, f .room);
@@ -76,7 +79,8 @@ module _ (key : ℕ → ℕ → ℕ) (rs : List Entry) (e : Entry) (p : List Ent
         least = λ q w. f .least q (omega (arith, lower-front e p q n h, held-less (e .beside) rs q));
       }
 
-pub stable-fill : (key : ℕ → ℕ → ℕ) (ts : List ℕ) (low : ℕ) (rs : List Entry) → Rising low ts → length ts ≤ total rs → Stable key rs (fill key rs ts)
+pub stable-fill : (key : ℕ → ℕ → ℕ) (ts : List ℕ) (low : ℕ) (rs : List Entry) → Rising low ts → length ts ≤ total rs
+    → Stable key rs (fill key rs ts)
 unfolding fill
 stable-fill key [] low rs up h n v i = absurd i
 stable-fill key (t ∷ ts) low rs up h n v i =
@@ -88,7 +92,8 @@ stable-fill key (t ∷ ts) low rs up h n v i =
     let r : Rising t (numbers p) = rw (numbers-fill key ts (less c rs)) (up .1) in
     ⊎-elim
     (λ u. rw (← u .0, ← u .1) (fair-head key rs e p r b))
-    (λ u. fair-tail key rs e p n v (sits-above p t n v r u) (stable-fill key ts t (less c rs) (up .1) (omega (arith, total-less c rs (b .room))) n v u))
+    (λ u. fair-tail key rs e p n v (sits-above p t n v r u)
+    (stable-fill key ts t (less c rs) (up .1) (omega (arith, total-less c rs (b .room))) n v u))
     i
 
 -- two nearest relays are one
@@ -97,15 +102,19 @@ pub best-one : (k : ℕ → ℕ) (rs : List Entry) (a b : ℕ) → ((r q : ℕ) 
 best-one k rs a b apart x y = apart a b (x .room) (y .room) (omega (arith, x .least b (y .room), y .least a (x .room)))
 
 pub fill-stable : (key : ℕ → ℕ → ℕ) (Ok : ℕ → Type 0) (apart : (t r q : ℕ) → Ok r → Ok q → key t r ≡ key t q → r ≡ q)
-    → (p : List Entry) (low : ℕ) (rs : List Entry) → Rising low (numbers p) → ((r : ℕ) → 0 < held rs r → Ok r) → Stable key rs p → p ≡ fill key rs (numbers p)
+    → (p : List Entry) (low : ℕ) (rs : List Entry) → Rising low (numbers p) → ((r : ℕ) → 0 < held rs r → Ok r)
+    → Stable key rs p → p ≡ fill key rs (numbers p)
 unfolding fill numbers
 fill-stable key Ok apart [] low rs up ok f = refl
 fill-stable key Ok apart (e ∷ p) low rs up ok f =
     let c : ℕ = orZero (choose (key (e .number)) rs) in
-    let x : Best (key (e .number)) rs (e .beside) = head-fair key rs e p (up .1) (f (e .number) (e .beside) (inl (refl, refl))) in
+    let x : Best (key (e .number)) rs (e .beside) = head-fair key rs e p (up .1)
+    (f (e .number) (e .beside) (inl (refl, refl))) in
     let y : Best (key (e .number)) rs c = choose-best (key (e .number)) rs (e .beside) (x .room) in
-    let s : e .beside ≡ c = best-one (key (e .number)) rs (e .beside) c (λ r q h h′. apart (e .number) r q (ok r h) (ok q h′)) x y in
+    let s : e .beside ≡ c = best-one (key (e .number)) rs (e .beside) c
+    (λ r q h h′. apart (e .number) r q (ok r h) (ok q h′)) x y in
     let ih : p ≡ fill key (less (e .beside) rs) (numbers p) =
-    fill-stable key Ok apart p (e .number) (less (e .beside) rs) (up .1) (λ r h. ok r (omega (arith, held-less (e .beside) rs r)))
+    fill-stable key Ok apart p (e .number) (less (e .beside) rs) (up .1)
+    (λ r h. ok r (omega (arith, held-less (e .beside) rs r)))
     (λ n v i. tail-fair key rs e p n v (sits-above p (e .number) n v (up .1) i) (f n v (inr i))) in
     rw (← s) (ap (λ (l : List Entry). e ∷ l) ih)

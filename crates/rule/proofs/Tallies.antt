@@ -39,25 +39,38 @@ loads-none [] = refl
 loads-none (r ∷ rs) = omega (arith, loads-none rs)
 
 -- one more tablet, at a relay below these
-loads-below : (rs : List Entry) (low : ℕ) → Rising low (numbers rs) → (e : Entry) (ts : List Entry) → e .beside ≤ low → loads rs (e ∷ ts) ≡ loads rs ts
+loads-below : (rs : List Entry) (low : ℕ) → Rising low (numbers rs) → (e : Entry) (ts : List Entry) → e .beside ≤ low
+    → loads rs (e ∷ ts) ≡ loads rs ts
 unfolding loads load count numbers
 loads-below [] low up e ts h = refl
 loads-below (r ∷ rs) low up e ts h =
-    rw (ne-eqb (e .beside) (r .number) (λ (x : e .beside ≡ r .number). omega (arith, up .0))) (omega (arith, loads-below rs (r .number) (up .1) e ts (omega (arith, up .0))))
+    rw (ne-eqb (e .beside) (r .number) (λ (x : e .beside ≡ r .number). omega (arith, up .0)))
+    (omega (arith, loads-below rs (r .number) (up .1) e ts (omega (arith, up .0))))
 
 -- one more tablet, at one of these
-loads-more : (rs : List Entry) (low : ℕ) → Rising low (numbers rs) → (e : Entry) (ts : List Entry) → In (e .beside) (numbers rs) → loads rs (e ∷ ts) ≡ suc (loads rs ts)
+loads-more : (rs : List Entry) (low : ℕ) → Rising low (numbers rs) → (e : Entry) (ts : List Entry)
+    → In (e .beside) (numbers rs) → loads rs (e ∷ ts) ≡ suc (loads rs ts)
 unfolding loads load count numbers
 loads-more [] low up e ts i = absurd i
 loads-more (r ∷ rs) low up e ts i =
     split (eqb (e .beside) (r .number))
-    (λ s. rw s (omega (arith, loads-below rs (r .number) (up .1) e ts (omega (arith, eqb-true (e .beside) (r .number) s)))))
-    (λ s. rw s (omega (arith, loads-more rs (r .number) (up .1) e ts (⊎-elim (λ u. absurd (eqb-false (e .beside) (r .number) s u)) (λ j. j) i))))
+    (λ s. rw s (omega (
+      arith,
+      loads-below rs (r .number) (up .1) e ts
+          (omega (arith, eqb-true (e .beside) (r .number) s)),
+    )))
+    (λ s. rw s (omega (
+      arith,
+      loads-more rs (r .number) (up .1) e ts
+          (⊎-elim (λ u. absurd (eqb-false (e .beside) (r .number) s u)) (λ j. j) i),
+    )))
 
-loads-all : (rs : List Entry) → Rising 0 (numbers rs) → (ts : List Entry) → ((n v : ℕ) → Sits ts n v → In v (numbers rs)) → loads rs ts ≡ length ts
+loads-all : (rs : List Entry) → Rising 0 (numbers rs) → (ts : List Entry)
+    → ((n v : ℕ) → Sits ts n v → In v (numbers rs)) → loads rs ts ≡ length ts
 loads-all rs up [] f = loads-none rs
 loads-all rs up (e ∷ ts) f =
-    loads-more rs 0 up e ts (f (e .number) (e .beside) (inl (refl, refl))) ∙ ap suc (loads-all rs up ts (λ n v i. f n v (inr i)))
+    loads-more rs 0 up e ts (f (e .number) (e .beside) (inl (refl, refl)))
+    ∙ ap suc (loads-all rs up ts (λ n v i. f n v (inr i)))
 
 pub loads-length : (p : Positions) (g : Ring) → Right p g → loads (g .relays) (g .tablets) ≡ length (g .tablets)
 loads-length p g r =
@@ -76,17 +89,31 @@ counted-going : (t : Tally) (c : Call) (r : Reply) → Going (counted t c r) →
 unfolding counted more
 counted-going t c r =
     split (isDone (r .refusal))
-    (λ d. rw (d, counted) (λ g. record { enrolments = omega (arith, g .enrolments); withdrawals = omega (arith, g .withdrawals); moves = omega (arith, g .moves); refusals = omega (arith, g .refusals) }))
-    (λ d. rw (d, counted) (λ g. record { enrolments = omega (arith, g .enrolments); withdrawals = omega (arith, g .withdrawals); moves = omega (arith, g .moves); refusals = omega (arith, g .refusals) }))
+    (λ d. rw (d, counted) (λ g. record {
+      enrolments = omega (arith, g .enrolments);
+      withdrawals = omega
+          (arith, g .withdrawals);
+      moves = omega (arith, g .moves);
+      refusals = omega (arith, g .refusals);
+    }))
+    (λ d. rw (d, counted) (λ g. record {
+      enrolments = omega (arith, g .enrolments);
+      withdrawals = omega
+          (arith, g .withdrawals);
+      moves = omega (arith, g .moves);
+      refusals = omega (arith, g .refusals);
+    }))
 
 run-going : (s : Station) (cs : List Step) → Going (run s cs .tally) → Going (s .tally)
 unfolding run step
 run-going s [] g = g
 run-going s (c ∷ cs) g =
-    counted-going (s .tally) (c .call) (outcome (c .positions) (c .lent) (s .ring) (c .call) .reply) (run-going (step s c) cs g)
+    counted-going (s .tally) (c .call) (outcome (c .positions) (c .lent) (s .ring) (c .call) .reply)
+    (run-going (step s c) cs g)
 
 -- an accepted call changes the number of tablets as it is counted
-edited-length : (p : Positions) (m : Lent) (g : Ring) (c : Call) → Right p g → isDone (firstBar (wrongNumbers m g c)) ≡ true
+edited-length : (p : Positions) (m : Lent) (g : Ring) (c : Call) → Right p g → isDone (firstBar (wrongNumbers m g c))
+    ≡ true
     → length (edited g c .tablets) + withdrawals c ≡ length (g .tablets) + enrolments c
 unfolding edited wrongNumbers isDone
 edited-length p m g (Add r l) ok h = refl
@@ -96,13 +123,20 @@ edited-length p m g (Enrol t) ok h = omega (arith, length-insert (t .0) 0 (g .ta
 edited-length p m g (Withdraw t) ok h =
     let b₂ : List Bar = bar (not (has (g .tablets) (t .0))) NotThere ∷ [] in
     let h₁ : (eqb (t .0) 0 ≡ false) × (isDone (firstBar b₂) ≡ true) = bar-passed (eqb (t .0) 0) NumberZero b₂ refl h in
-    let h₂ : (not (has (g .tablets) (t .0)) ≡ false) × (isDone (firstBar []) ≡ true) = bar-passed (not (has (g .tablets) (t .0))) NotThere [] refl (h₁ .1) in
-    omega (arith, length-delete (t .0) (besideOf (g .tablets) (t .0)) (g .tablets) 0 (ok .tablets .up) (has-sits (g .tablets) 0 (t .0) (ok .tablets .up) (not-false (has (g .tablets) (t .0)) (h₂ .0))))
+    let h₂ : (not (has (g .tablets) (t .0)) ≡ false) × (isDone (firstBar []) ≡ true) = bar-passed
+    (not (has (g .tablets) (t .0))) NotThere [] refl (h₁ .1) in
+    omega (
+      arith,
+      length-delete (t .0) (besideOf (g .tablets) (t .0)) (g .tablets) 0 (ok .tablets .up)
+          (has-sits (g .tablets) 0 (t .0) (ok .tablets .up) (not-false (has (g .tablets) (t .0)) (h₂ .0))),
+    )
 edited-length p m g (Find t) ok h = refl
 
 -- what is counted keeps the two even, of a done call and of a refused one
-even-done : (t : Tally) (c : Call) (r : Reply) → isDone (r .refusal) ≡ true → (before now-there : ℕ) → now-there + withdrawals c ≡ before + enrolments c
-    → before + t .withdrawals ≡ t .enrolments → Going (counted t c r) → now-there + counted t c r .withdrawals ≡ counted t c r .enrolments
+even-done : (t : Tally) (c : Call) (r : Reply) → isDone (r .refusal) ≡ true → (before now-there : ℕ)
+    → now-there + withdrawals c ≡ before + enrolments c
+    → before + t .withdrawals ≡ t .enrolments → Going (counted t c r) → now-there + counted t c r .withdrawals
+    ≡ counted t c r .enrolments
 unfolding counted more
 even-done t c r d before now-there h e = rw (d, counted) (λ g. omega (arith, g .enrolments, g .withdrawals))
 
@@ -127,17 +161,20 @@ module _ (s : Station) (c : Step) (small : subject (c .call) < 2 ^ 32) where
       let a : Accepted p (c .lent) g (c .call) = accepted-is p (c .lent) g (c .call) d in
       let ok : Right p g = right-is p g (a .tables) in
       let ed : Edited g (c .call) = edited-tables p (c .lent) g (c .call) ok (a .numbers) small in
-      let k : length (after p g (c .call) .tablets) + withdrawals (c .call) ≡ length (g .tablets) + enrolments (c .call) =
+      let k : length (after p g (c .call) .tablets) + withdrawals (c .call) ≡ length (g .tablets) + enrolments
+      (c .call) =
       omega (arith, after-length p g (c .call) ed (a .enough), edited-length p (c .lent) g (c .call) ok (a .numbers)) in
       rw (outcome-accepted p (c .lent) g (c .call) d)
       (λ go e. record {
         loads = loads-length p (after p g (c .call)) (after-right p g (c .call) ed (a .enough));
-        counts = even-done (s .tally) (c .call) (accepted p g (c .call) .reply) refl (length (g .tablets)) (length (after p g (c .call) .tablets)) k (e .counts) go;
+        counts = even-done (s .tally) (c .call) (accepted p g (c .call) .reply) refl (length (g .tablets))
+            (length (after p g (c .call) .tablets)) k (e .counts) go;
       }))
       (λ d. rw (outcome-declined p (c .lent) g (c .call) d)
       (λ go e. record {
         loads = e .loads;
-        counts = even-refused (s .tally) (c .call) (bareReply (refusal p (c .lent) g (c .call))) d (length (g .tablets)) (e .counts);
+        counts = even-refused (s .tally) (c .call) (bareReply (refusal p (c .lent) g (c .call))) d (length (g .tablets))
+            (e .counts);
       }))
 
 run-even : (s : Station) (cs : List Step) → Fit cs → Going (run s cs .tally) → Even s → Even (run s cs)
@@ -150,7 +187,8 @@ unfolding new loads
 new-even = record { loads = refl; counts = refl }
 
 pub tally-loads : (cs : List Step) → Fit cs → Going (run new cs .tally)
-    → loads (run new cs .ring .relays) (run new cs .ring .tablets) + run new cs .tally .withdrawals ≡ run new cs .tally .enrolments
+    → loads (run new cs .ring .relays) (run new cs .ring .tablets) + run new cs .tally .withdrawals
+    ≡ run new cs .tally .enrolments
 tally-loads cs f g =
     let e : Even (run new cs) = run-even new cs f g new-even in
     ap (λ (n : ℕ). n + run new cs .tally .withdrawals) (e .loads) ∙ e .counts

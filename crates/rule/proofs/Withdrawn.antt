@@ -37,7 +37,8 @@ above-none [] n m v h i = absurd i
 above-none (e ∷ es) n m v h i =
     split (ltb n (e .number))
     (λ s. absurd (omega (arith, rw s at h)))
-    (λ s. ⊎-elim (λ u. omega (arith, u .0, ltb-false n (e .number) s)) (λ j. above-none es n m v (omega (arith, rw s at h)) j) i)
+    (λ s. ⊎-elim (λ u. omega (arith, u .0, ltb-false n (e .number) s))
+    (λ j. above-none es n m v (omega (arith, rw s at h)) j) i)
 
 module _ (p : Positions) (rs : List Entry) (t : Table rs) (ts : List ℕ) where
   -- the hole at r, and how many may still take one
@@ -67,18 +68,27 @@ module _ (p : Positions) (rs : List Entry) (t : Table rs) (ts : List ℕ) where
       e-sits = among-sits es e (lowest-some (hadPassed p r) es e h .0)
 
       e-passed : key p (e .number) r < key p (e .number) (e .beside)
-      e-passed = ltb-true (key p (e .number) r) (key p (e .number) (e .beside)) (sym (passed-key (e .number) (e .beside) e-sits) ∙ lowest-some (hadPassed p r) es e h .1)
+      e-passed =
+          ltb-true (key p (e .number) r) (key p (e .number) (e .beside))
+          (sym (passed-key (e .number) (e .beside) e-sits) ∙ lowest-some (hadPassed p r) es e h .1)
 
       e-later : w < e .number
-      e-later = later (key p) rs es 0 (i .gap .up) w r (e .number) (e .beside) (i .gap .hole) (i .gap .free) e-sits e-passed
+      e-later =
+          later (key p) rs es 0 (i .gap .up) w r (e .number) (e .beside) (i .gap .hole) (i .gap .free) e-sits e-passed
 
       -- the lowest who had passed takes the hole, and leaves one
       taken : (k : ℕ) → steps ≡ suc k → Filling k (insert (e .number) r (delete (e .number) es)) (e .number) (e .beside)
       taken k s =
           record {
             gap = gap-step (key p) rs ts es w r (i .gap) (e .number) (e .beside) e-sits e-passed
-                (λ n v j l. lowest-least (hadPassed p r) es e h (entry n v) (sits-among es n v j) (passed-key n v j ∙ lt-ltb (key p n r) (key p n v) l));
-            bound = omega (arith, i .bound, above-fewer (e .number) (e .beside) es 0 (i .gap .up) e-sits w (e .number) r e-later (omega arith));
+                (λ n v j l. lowest-least (hadPassed p r) es e h (entry n v) (sits-among es n v j)
+                (passed-key n v j ∙ lt-ltb (key p n r) (key p n v) l));
+            bound = omega (
+              arith,
+              i .bound,
+              above-fewer (e .number) (e .beside) es 0 (i .gap .up) e-sits w
+                  (e .number) r e-later (omega arith),
+            );
           }
 
   fill-ends : (steps : ℕ) (es : List Entry) (w r : ℕ) → Filling steps es w r
@@ -88,21 +98,37 @@ module _ (p : Positions) (rs : List Entry) (t : Table rs) (ts : List ℕ) where
     nobody es w r 0 i
         (λ n v j. passed-key es w r 0 i n v j ∙ le-ltb (key p n r) (key p n v)
         (split (ltb (key p n r) (key p n v))
-        (λ s. absurd (omega (arith, above-none es w n v (i .bound) j, later (key p) rs es 0 (i .gap .up) w r n v (i .gap .hole) (i .gap .free) j (ltb-true (key p n r) (key p n v) s))))
+        (λ s. absurd (omega (
+          arith,
+          above-none es w n v (i .bound) j,
+          later (key p) rs es 0 (i .gap .up) w r n v
+              (i .gap .hole) (i .gap .free) j (ltb-true (key p n r) (key p n v) s),
+        )))
         (λ s. ltb-false (key p n r) (key p n v) s))),
     tt,
   )
-  fill-ends (suc k) es w r i = go (lowest (hadPassed p r) es) refl (λ e d. fill-ends k (insert (e .number) r (delete (e .number) es)) (e .number) (e .beside) d)
+  fill-ends (suc k) es w r i =
+      go (lowest (hadPassed p r) es) refl (λ e d. fill-ends k (insert (e .number) r (delete (e .number) es)) (e .number)
+      (e .beside) d)
     where
       go : (o : Option Entry) → lowest (hadPassed p r) es ≡ o
           → ((e : Entry) → Filling k (insert (e .number) r (delete (e .number) es)) (e .number) (e .beside)
           → (fillHole k p (insert (e .number) r (delete (e .number) es)) (e .beside) .tablets ≡ fill (key p) rs ts)
-          × Rising (e .number) (numbers (fillHole k p (insert (e .number) r (delete (e .number) es)) (e .beside) .chain)))
-          → (fillHole (suc k) p es r .tablets ≡ fill (key p) rs ts) × Rising w (numbers (fillHole (suc k) p es r .chain))
-      go none h ih = rw (h, fillHole) (nobody es w r (suc k) i (λ n v j. lowest-none (hadPassed p r) es h (entry n v) (sits-among es n v j)), tt)
+          × Rising (e .number) (numbers (fillHole k p (insert (e .number) r (delete (e .number) es))
+          (e .beside) .chain)))
+          → (fillHole (suc k) p es r .tablets ≡ fill (key p) rs ts)
+          × Rising w (numbers (fillHole (suc k) p es r .chain))
+      go none h ih =
+          rw (h, fillHole) (
+            nobody es w r (suc k) i
+                (λ n v j. lowest-none (hadPassed p r) es h (entry n v) (sits-among es n v j)),
+            tt,
+          )
       go (some e) h ih =
-          let d : (fillHole k p (insert (e .number) r (delete (e .number) es)) (e .beside) .tablets ≡ fill (key p) rs ts)
-          × Rising (e .number) (numbers (fillHole k p (insert (e .number) r (delete (e .number) es)) (e .beside) .chain)) =
+          let d : (fillHole k p (insert (e .number) r (delete (e .number) es)) (e .beside) .tablets
+          ≡ fill (key p) rs ts)
+          × Rising (e .number) (numbers (fillHole k p (insert (e .number) r (delete (e .number) es))
+          (e .beside) .chain)) =
           ih e (taken es w r (suc k) i e h k refl) in
           rw (h, fillHole) (d .0, (e-later es w r (suc k) i e h, d .1))
 
@@ -112,24 +138,40 @@ module _ (p : Positions) (g : Ring) (r : Right p g) (x : ℕ) (there : has (g .t
   x-sits : Sits (g .tablets) x (besideOf (g .tablets) x)
   x-sits = has-sits (g .tablets) 0 x (r .tablets .up) there
 
-  start : Filling p (g .relays) (r .relays) (numbers (delete x (g .tablets))) (length (g .tablets)) (delete x (g .tablets)) x (besideOf (g .tablets) x)
+  start : Filling p (g .relays) (r .relays) (numbers (delete x (g .tablets))) (length (g .tablets))
+      (delete x (g .tablets)) x (besideOf (g .tablets) x)
   unfolding above
   start =
       record {
-        gap = gap-start (key p) (g .relays) (g .tablets) (right-stable p g r) (r .tablets .up) x (besideOf (g .tablets) x) x-sits;
-        bound = omega (arith, count-length (λ e. ltb x (e .number)) (delete x (g .tablets)), length-delete x (besideOf (g .tablets) x) (g .tablets) 0 (r .tablets .up) x-sits);
+        gap = gap-start (key p) (g .relays) (g .tablets) (right-stable p g r) (r .tablets .up) x
+            (besideOf (g .tablets) x) x-sits;
+        bound = omega (
+          arith,
+          count-length (λ e. ltb x (e .number)) (delete x (g .tablets)),
+          length-delete x
+              (besideOf (g .tablets) x) (g .tablets) 0 (r .tablets .up) x-sits,
+        );
       }
 
-  pub withdrawn-placement : placement p (g .relays) (numbers (delete x (g .tablets))) ≡ some (withdrawn p (g .tablets) x .tablets)
+  pub withdrawn-placement : placement p (g .relays) (numbers (delete x (g .tablets)))
+      ≡ some (withdrawn p (g .tablets) x .tablets)
   unfolding withdrawn
   withdrawn-placement =
       placement-fill p (g .relays) 0 (r .relays .up) (r .relays .small) (numbers (delete x (g .tablets)))
-      (omega (arith, r .enough, length-numbers (delete x (g .tablets)), length-delete x (besideOf (g .tablets) x) (g .tablets) 0 (r .tablets .up) x-sits))
+      (omega (
+        arith,
+        r .enough,
+        length-numbers (delete x (g .tablets)),
+        length-delete x (besideOf (g .tablets) x)
+            (g .tablets) 0 (r .tablets .up) x-sits,
+      ))
       ∙ ap (λ (l : List Entry). some l)
-      (sym (fill-ends p (g .relays) (r .relays) (numbers (delete x (g .tablets))) (length (g .tablets)) (delete x (g .tablets)) x (besideOf (g .tablets) x) start .0))
+      (sym (fill-ends p (g .relays) (r .relays) (numbers (delete x (g .tablets))) (length (g .tablets))
+      (delete x (g .tablets)) x (besideOf (g .tablets) x) start .0))
 
   -- every number of the chain is above the one that left
   pub withdrawn-rising : Rising x (numbers (withdrawn p (g .tablets) x .chain))
   unfolding withdrawn
   withdrawn-rising =
-      fill-ends p (g .relays) (r .relays) (numbers (delete x (g .tablets))) (length (g .tablets)) (delete x (g .tablets)) x (besideOf (g .tablets) x) start .1
+      fill-ends p (g .relays) (r .relays) (numbers (delete x (g .tablets))) (length (g .tablets))
+      (delete x (g .tablets)) x (besideOf (g .tablets) x) start .1

@@ -9,7 +9,9 @@ use lib.ListN.{length}
 use Rattle.ring.specs.Most.{mostLimit}
 use Rattle.ring.specs.Scheme.{Positions}
 use Rattle.rule.specs.declared.Refusal.{Refusal}
-use Rattle.rule.specs.declared.Refusal.the-variants.{Done, SchemeUnknown, TablesNotRight, NumberZero, TooLarge, NotThere, ThereAlready, NoUnusedPlace, LimitsTooSmall, MoveListTooShort}
+use Rattle.rule.specs.declared.Refusal.the-variants.{Done, SchemeUnknown, TablesNotRight, NumberZero, TooLarge}
+use Rattle.rule.specs.declared.Refusal.the-variants.{NotThere, ThereAlready, NoUnusedPlace, LimitsTooSmall}
+use Rattle.rule.specs.declared.Refusal.the-variants.{MoveListTooShort}
 use Rattle.rule.specs.declared.Call.{Call}
 use Rattle.rule.specs.declared.Call.the-variants.{Add, Remove, Set, Enrol, Withdraw, Find}
 use Rattle.rule.specs.declared.Reply.{Reply}
@@ -113,7 +115,8 @@ wrongNumbers m g (Add r limit) =
     ∷ bar (leb (m .relayPlaces) (length (g .relays))) NoUnusedPlace ∷ []
 wrongNumbers m g (Remove r) = bar (eqb (r .0) 0) NumberZero ∷ bar (not (has (g .relays) (r .0))) NotThere ∷ []
 wrongNumbers m g (Set r limit) =
-    bar (eqb (r .0) 0) NumberZero ∷ bar (ltb mostLimit limit) TooLarge ∷ bar (not (has (g .relays) (r .0))) NotThere ∷ []
+    bar (eqb (r .0) 0) NumberZero ∷ bar (ltb mostLimit limit) TooLarge ∷ bar (not (has (g .relays) (r .0))) NotThere
+    ∷ []
 wrongNumbers m g (Enrol t) =
     bar (eqb (t .0) 0) NumberZero ∷ bar (has (g .tablets) (t .0)) ThereAlready
     ∷ bar (leb (m .tabletPlaces) (length (g .tablets))) NoUnusedPlace ∷ []

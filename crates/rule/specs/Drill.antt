@@ -44,7 +44,8 @@ unfoldable pub drillRing : Ring
 drillRing = record { relays = entry 10 1 ∷ entry 20 2 ∷ entry 30 1 ∷ []; tablets = [] }
 
 unfoldable pub drillLent : Lent
-drillLent = record { known = true; fit = true; relayPlaces = mostRelays; tabletPlaces = mostTablets; movePlaces = mostTablets }
+drillLent =
+    record { known = true; fit = true; relayPlaces = mostRelays; tabletPlaces = mostTablets; movePlaces = mostTablets }
 
 unfoldable pub drill : List Case
 drill =

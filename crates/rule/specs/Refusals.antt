@@ -4,7 +4,10 @@ use mathlib.Core.List.{List, [], _∷_}
 use Prim.Native.Nat.{ℕ}
 use lib.Dec.{eqb}
 use Rattle.rule.specs.declared.Refusal.{Refusal}
-use Rattle.rule.specs.declared.Refusal.the-variants.{Done, SchemeUnknown, TablesNotRight, NumberZero, TooLarge, NotThere, ThereAlready, NoUnusedPlace, LimitsTooSmall, MoveListTooShort, RosterShapeWrong, RosterContentWrong, OutputUnfit}
+use Rattle.rule.specs.declared.Refusal.the-variants.{Done, SchemeUnknown, TablesNotRight, NumberZero, TooLarge}
+use Rattle.rule.specs.declared.Refusal.the-variants.{NotThere, ThereAlready, NoUnusedPlace, LimitsTooSmall}
+use Rattle.rule.specs.declared.Refusal.the-variants.{MoveListTooShort, RosterShapeWrong, RosterContentWrong}
+use Rattle.rule.specs.declared.Refusal.the-variants.{OutputUnfit}
 use Rattle.rule.specs.declared.Reply.{Reply}
 
 abbrev pub numberOf : Refusal → ℕ

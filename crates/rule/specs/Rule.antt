@@ -62,4 +62,5 @@ isJust (some placed) tablets = same placed tablets
 -- numbers from 1 that rise, limits within bounds, and beside every tablet the rule's relay
 unfoldable pub right : Positions → Ring → Bool
 right p g =
-    rising 0 (g .relays) && (limitsFit (g .relays) && (rising 0 (g .tablets) && isJust (placement p (g .relays) (numbers (g .tablets))) (g .tablets)))
+    rising 0 (g .relays) && (limitsFit (g .relays)
+    && (rising 0 (g .tablets) && isJust (placement p (g .relays) (numbers (g .tablets))) (g .tablets)))

@@ -40,9 +40,13 @@ OtherTablets t g h = (q : ℕ) → (q ≡ t → ⊥) → has (h .tablets) q ≡ 
 
 -- h has the sets of g with the call's own entry changed
 abbrev pub Changed : Ring → Call → Ring → Type 0
-Changed g (Add r l) h = Others (r .0) (g .relays) (h .relays) × (With (h .relays) (r .0) l × (numbers (h .tablets) ≡ numbers (g .tablets)))
-Changed g (Remove r) h = Others (r .0) (g .relays) (h .relays) × ((has (h .relays) (r .0) ≡ false) × (numbers (h .tablets) ≡ numbers (g .tablets)))
-Changed g (Set r l) h = Others (r .0) (g .relays) (h .relays) × (With (h .relays) (r .0) l × (numbers (h .tablets) ≡ numbers (g .tablets)))
+Changed g (Add r l) h =
+    Others (r .0) (g .relays) (h .relays) × (With (h .relays) (r .0) l × (numbers (h .tablets) ≡ numbers (g .tablets)))
+Changed g (Remove r) h =
+    Others (r .0) (g .relays) (h .relays) × ((has (h .relays) (r .0) ≡ false)
+    × (numbers (h .tablets) ≡ numbers (g .tablets)))
+Changed g (Set r l) h =
+    Others (r .0) (g .relays) (h .relays) × (With (h .relays) (r .0) l × (numbers (h .tablets) ≡ numbers (g .tablets)))
 Changed g (Enrol t) h = (h .relays ≡ g .relays) × (OtherTablets (t .0) g h × (has (h .tablets) (t .0) ≡ true))
 Changed g (Withdraw t) h = (h .relays ≡ g .relays) × (OtherTablets (t .0) g h × (has (h .tablets) (t .0) ≡ false))
 Changed g (Find t) h = h ≡ g

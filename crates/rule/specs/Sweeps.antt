@@ -47,4 +47,5 @@ newcomer t = record { walker = t; from = 0; chain = [] }
 -- each that had passed the hole takes it, and leaves its own
 unfoldable pub holes : Positions → ℕ → List Entry → List Move
 holes p r [] = []
-holes p r (e ∷ es) = elim (hadPassed p r e) [ true ↦ move (e .number) (e .beside) r ∷ holes p (e .beside) es | false ↦ holes p r es ]
+holes p r (e ∷ es) =
+    elim (hadPassed p r e) [ true ↦ move (e .number) (e .beside) r ∷ holes p (e .beside) es | false ↦ holes p r es ]

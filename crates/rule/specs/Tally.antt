@@ -45,7 +45,13 @@ counted t c r =
         moves = more (t .moves) (r .moves);
         refusals = t .refusals;
       }
-      | false ↦ record { enrolments = t .enrolments; withdrawals = t .withdrawals; moves = t .moves; refusals = more (t .refusals) 1 }
+      | false ↦ record {
+        enrolments = t .enrolments;
+        withdrawals = t .withdrawals;
+        moves = t .moves;
+        refusals = more
+            (t .refusals) 1;
+      }
     ]
 
 -- no count has stopped
@@ -92,4 +98,8 @@ Fit (c ∷ cs) = (subject (c .call) < 2 ^ 32) × Fit cs
 
 -- empty tables and a zero tally
 unfoldable pub new : Station
-new = record { ring = record { relays = []; tablets = [] }; tally = record { enrolments = 0; withdrawals = 0; moves = 0; refusals = 0 } }
+new =
+    record {
+      ring = record { relays = []; tablets = [] };
+      tally = record { enrolments = 0; withdrawals = 0; moves = 0; refusals = 0 };
+    }

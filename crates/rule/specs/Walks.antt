@@ -47,7 +47,8 @@ walk (suc steps) p relays tablets w ahead =
         | true ↦ record { tablets = insert w (r .number) tablets; chain = entry w (r .number) ∷ [] }
         | false ↦
             let g : ℕ = greatest tablets (r .number) in
-            satDown w (r .number) (walk steps p relays (insert w (r .number) (delete g tablets)) g (behind (r .number) (order p g relays)))
+            satDown w (r .number) (walk steps p relays (insert w (r .number) (delete g tablets)) g
+            (behind (r .number) (order p g relays)))
       ]
     ]
 
@@ -77,7 +78,8 @@ fillHole zero p tablets r = record { tablets = tablets; chain = [] }
 fillHole (suc steps) p tablets r =
     elim (lowest (hadPassed p r) tablets) [
       | none ↦ record { tablets = tablets; chain = [] }
-      | some e ↦ satDown (e .number) r (fillHole steps p (insert (e .number) r (delete (e .number) tablets)) (e .beside))
+      | some e ↦ satDown (e .number) r (fillHole steps p (insert (e .number) r (delete (e .number) tablets))
+          (e .beside))
     ]
 
 unfoldable pub withdrawn : Positions → List Entry → ℕ → Walked

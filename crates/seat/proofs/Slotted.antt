@@ -82,11 +82,14 @@ module _ {s : ℕ} {rs ts : List ℕ} {n m : ℕ} {v : Survey} (b : Start s rs t
         ∙ byte-steps n (at-home .slot) k (rises .relaysFit .few) (at-home .home .begins .within) c
 
     pub passed-steps : (k : ℕ) → k < n
-        → hadPassed (positions s) (relayNumber rs (slotRelay (v .keys) k)) (entry (tabletNumber ts j) (tabletRelay ts j)) ≡ ltb (stepsTo n (getD (v .home) j 0) k) (stepsTo n (getD (v .home) j 0) (getD (v .slot) j 0))
+        → hadPassed (positions s) (relayNumber rs (slotRelay (v .keys) k))
+        (entry (tabletNumber ts j) (tabletRelay ts j)) ≡ ltb (stepsTo n (getD (v .home) j 0) k)
+        (stepsTo n (getD (v .home) j 0) (getD (v .slot) j 0))
     unfolding hadPassed
     passed-steps k c =
         rw (← slot-relay, from-home k c, from-home (getD (v .slot) j 0) slot-within)
-        (sooner-steps (positions s) rs n (rises .relaysFit .few) (rises .relays) (v .keys) (b .surveyed .ordered) (tabletNumber ts j) small (at-home .slot) (at-home .home) k (getD (v .slot) j 0) c slot-within)
+        (sooner-steps (positions s) rs n (rises .relaysFit .few) (rises .relays) (v .keys) (b .surveyed .ordered)
+        (tabletNumber ts j) small (at-home .slot) (at-home .home) k (getD (v .slot) j 0) c slot-within)
 
     abbrev ours : Entry → Bool
     ours = λ e. eqb (e .number) (tabletRelay ts j)
@@ -94,27 +97,45 @@ module _ {s : ℕ} {rs ts : List ℕ} {n m : ℕ} {v : Survey} (b : Start s rs t
     -- the relay so many steps from its home is its own, and none before it is
     own : roundNumber rs (v .keys) n (at-home .slot) (stepsTo n (at-home .slot) slotOf) ≡ tabletRelay ts j
     unfolding roundNumber
-    own = ap (λ (x : ℕ). relayNumber rs (slotRelay (v .keys) x)) (slot-steps n (at-home .slot) (at-home .home .begins .within) slotOf slot-within) ∙ slot-relay
+    own =
+        ap (λ (x : ℕ). relayNumber rs (slotRelay (v .keys) x))
+        (slot-steps n (at-home .slot) (at-home .home .begins .within) slotOf slot-within) ∙ slot-relay
 
-    up-to-own : upTo ours (round rs (v .keys) n (at-home .slot) n) ≡ round rs (v .keys) n (at-home .slot) (stepsTo n (at-home .slot) slotOf)
+    up-to-own : upTo ours (round rs (v .keys) n (at-home .slot) n) ≡ round rs (v .keys) n (at-home .slot)
+        (stepsTo n (at-home .slot) slotOf)
     up-to-own =
         let d : ℕ = stepsTo n (at-home .slot) slotOf in
         let inside : d < n = steps-inside n (at-home .slot) (at-home .home .begins .within) slotOf slot-within in
-        upTo-places ours (roundNumber rs (v .keys) n (at-home .slot)) (roundLimit rs (v .keys) n (at-home .slot)) n d inside
+        upTo-places ours (roundNumber rs (v .keys) n (at-home .slot)) (roundLimit rs (v .keys) n (at-home .slot)) n d
+        inside
         (λ i c. ne-eqb (roundNumber rs (v .keys) n (at-home .slot) i) (tabletRelay ts j)
         (λ (e : roundNumber rs (v .keys) n (at-home .slot) i ≡ tabletRelay ts j).
-        number-apart (positions s) rs n (rises .relaysFit .few) (rises .relays) (v .keys) (b .surveyed .ordered) (tabletNumber ts j) small (at-home .slot) (at-home .home) i d c inside (e ∙ sym own)))
+        number-apart (positions s) rs n (rises .relaysFit .few) (rises .relays) (v .keys) (b .surveyed .ordered)
+        (tabletNumber ts j) small (at-home .slot) (at-home .home) i d c inside (e ∙ sym own)))
         (eq-eqb (roundNumber rs (v .keys) n (at-home .slot) d) (tabletRelay ts j) own)
 
-    pub ahead-steps : aheadOf (positions s) (ringOf rs ts) (tabletNumber ts j) ≡ stepsTo n (getD (v .home) j 0) (getD (v .slot) j 0)
+    pub ahead-steps : aheadOf (positions s) (ringOf rs ts) (tabletNumber ts j) ≡ stepsTo n (getD (v .home) j 0)
+        (getD (v .slot) j 0)
     unfolding aheadOf
     ahead-steps =
         ap (λ (g : Ring). aheadOf (positions s) g (tabletNumber ts j)) (start-ring b)
-        ∙ ap (λ (q : ℕ). length (upTo (λ e. eqb (e .number) q) (order (positions s) (tabletNumber ts j) (relaysIn rs n)))) (beside-places (tabletRelay ts) (rises .tablets) j h)
-        ∙ ap (λ (l : List Entry). length (upTo ours l)) (order-round (positions s) rs n (rises .relaysFit .few) (rises .relays) (v .keys) (b .surveyed .ordered) (tabletNumber ts j) small (at-home .slot) (at-home .home))
+        ∙ ap (λ (q : ℕ). length (upTo (λ e. eqb (e .number) q)
+        (order (positions s) (tabletNumber ts j) (relaysIn rs n))))
+        (beside-places (tabletRelay ts) (rises .tablets) j h)
+        ∙ ap (λ (l : List Entry). length (upTo ours l))
+        (order-round (positions s) rs n (rises .relaysFit .few) (rises .relays) (v .keys) (b .surveyed .ordered)
+        (tabletNumber ts j) small (at-home .slot) (at-home .home))
         ∙ ap length up-to-own
-        ∙ length-places (roundNumber rs (v .keys) n (at-home .slot)) (roundLimit rs (v .keys) n (at-home .slot)) (stepsTo n (at-home .slot) slotOf)
+        ∙ length-places (roundNumber rs (v .keys) n (at-home .slot)) (roundLimit rs (v .keys) n (at-home .slot))
+        (stepsTo n (at-home .slot) slotOf)
         ∙ sym (from-home slotOf slot-within)
 
   pub start-slotted : Slotted ts n m (v .home) (v .slot)
-  start-slotted = record { relaysFew = rises .relaysFit .few; tabletsFit = rises .tabletsFit; numbers = rises .tablets; homes = home-within; slots = slot-within }
+  start-slotted =
+      record {
+        relaysFew = rises .relaysFit .few;
+        tabletsFit = rises .tabletsFit;
+        numbers = rises .tablets;
+        homes = home-within;
+        slots = slot-within;
+      }

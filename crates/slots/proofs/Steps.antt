@@ -68,8 +68,10 @@ module _ (n h : ℕ) (hh : h ≤ n) where
       split (ltb (h + d) n)
       (λ s. let a : h + d < n = ltb-true (h + d) n s in
       split (ltb (h + c) n)
-      (λ u. let b : h + c < n = ltb-true (h + c) n u in both (omega (arith, slot-on d a)) (omega (arith, slot-on d a, slot-on c b)))
-      (λ u. let b : n ≤ h + c = ltb-false (h + c) n u in turn (omega (arith, slot-on d a)) (omega (arith, slot-round c b))))
+      (λ u. let b : h + c < n = ltb-true (h + c) n u in both (omega (arith, slot-on d a))
+      (omega (arith, slot-on d a, slot-on c b)))
+      (λ u. let b : n ≤ h + c = ltb-false (h + c) n u in turn (omega (arith, slot-on d a))
+      (omega (arith, slot-round c b))))
       (λ s. let a : n ≤ h + d = ltb-false (h + d) n s in
       past (omega (arith, slot-round d a, slot-round c (omega arith))) (omega (arith, slot-round c (omega arith))))
 
@@ -80,11 +82,14 @@ module _ (n h : ℕ) (hh : h ≤ n) where
       (λ s. let a : h + d < n = ltb-true (h + d) n s in
       let e : slotAt n h d ≡ h + d = slot-on d a in
       split (eqb (slotAt n h d + 1) n)
-      (λ u. let z : slotAt n h d + 1 ≡ n = eqb-true (slotAt n h d + 1) n u in rw u (slot-round (d + 1) (omega arith) ∙ omega arith))
-      (λ u. let z : slotAt n h d + 1 ≡ n → ⊥ = eqb-false (slotAt n h d + 1) n u in rw u (slot-on (d + 1) (omega arith) ∙ omega arith)))
+      (λ u. let z : slotAt n h d + 1 ≡ n = eqb-true (slotAt n h d + 1) n u in rw u
+      (slot-round (d + 1) (omega arith) ∙ omega arith))
+      (λ u. let z : slotAt n h d + 1 ≡ n → ⊥ = eqb-false (slotAt n h d + 1) n u in rw u
+      (slot-on (d + 1) (omega arith) ∙ omega arith)))
       (λ s. let a : n ≤ h + d = ltb-false (h + d) n s in
       let e : slotAt n h d ≡ h + d - n = slot-round d a in
-      rw (ne-eqb (slotAt n h d + 1) n (λ (z : slotAt n h d + 1 ≡ n). omega arith)) (slot-round (d + 1) (omega arith) ∙ omega arith))
+      rw (ne-eqb (slotAt n h d + 1) n (λ (z : slotAt n h d + 1 ≡ n). omega arith))
+      (slot-round (d + 1) (omega arith) ∙ omega arith))
 
   -- who comes no later is no more steps away
   pub ahead-steps : (k l : ℕ) → k < n → l < n → Ahead h k l → stepsTo n h k ≤ stepsTo n h l

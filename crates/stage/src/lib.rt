@@ -43,7 +43,8 @@ pub fn other_line(answer: &mut [u8], next: Stage) -> Standing
 }
 
 pub fn first_line(answer: &mut [u8], line: &[u8]) -> Standing
-    ensures { λ r. ⌜ Says (first (now (line .entry)) (schemeOf (now (line .entry)))) (now (answer .entry)) r (now (answer .exit)) ⌝ }
+    ensures { λ r. ⌜ Says (first (now (line .entry)) (schemeOf (now (line .entry)))) (now (answer .entry)) r
+        (now (answer .exit)) ⌝ }
 {
     match line::scheme_of(line) {
         line::First::Scheme(scheme) => {

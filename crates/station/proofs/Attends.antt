@@ -29,14 +29,22 @@ module _ (s : ℕ) (rs ts : List ℕ) (list : List Move) (t : Tally) (c : Call) 
   unfolding outcomeWith recorded
   recorded-moves = left-moves (positions s) (lentWith s rs ts (length list)) (ringOf rs ts) c recorded rs ts list refl
 
-  pub attends : {r : Reply} {numbers rs′ ts′ : List ℕ} {list′ : List Move} {t′ : Tally} → Works s rs ts (length list) c r numbers rs′ ts′
-      → list′ ≡ handed list numbers (r .moves) → t′ ≡ counted t c r → Answers (attended s rs ts list t c) r (lists rs′ ts′ list′, t′)
+  pub attends : {r : Reply} {numbers rs′ ts′ : List ℕ} {list′ : List Move} {t′ : Tally}
+      → Works s rs ts (length list) c r numbers rs′ ts′
+      → list′ ≡ handed list numbers (r .moves) → t′ ≡ counted t c r → Answers (attended s rs ts list t c) r
+      (lists rs′ ts′ list′, t′)
   unfolding tablesAfter attended
   attends {r = r} {numbers} {rs′} {ts′} {list′} d e u =
-      let relays : rs′ ≡ left recorded rs ts list o .lent .relays = d .relays ∙ left-relays recorded rs ts [] o recorded list in
-      let tablets : ts′ ≡ left recorded rs ts list o .lent .tablets = d .tablets ∙ left-tablets recorded rs ts [] o recorded list in
+      let relays : rs′ ≡ left recorded rs ts list o .lent .relays = d .relays
+      ∙ left-relays recorded rs ts [] o recorded list in
+      let tablets : ts′ ≡ left recorded rs ts list o .lent .tablets = d .tablets
+      ∙ left-tablets recorded rs ts [] o recorded list in
       let moves : list′ ≡ left recorded rs ts list o .lent .moves =
       e ∙ handed-moves (o .moves) list numbers (r .moves) (d .count) (d .fits) (d .moves) ∙ sym recorded-moves in
       tally-answers (counted t c)
-      (record { reply = d .reply ∙ sym (left-reply recorded rs ts list o); lent = λ i. lists (relays i) (tablets i) (moves i) })
+      (record {
+        reply = d .reply ∙ sym (left-reply recorded rs ts list o);
+        lent = λ i. lists (relays i) (tablets i)
+            (moves i);
+      })
       u

@@ -18,7 +18,8 @@ use Rattle.station.specs.Handed.{handed}
 pub length-handed : (list : List Move) (numbers : List ℕ) (n : ℕ) → length (handed list numbers n) ≡ length list
 unfolding handed
 length-handed list numbers zero = refl
-length-handed list numbers (suc n) = length-set (handed list numbers n) n (moveAt numbers n) ∙ length-handed list numbers n
+length-handed list numbers (suc n) =
+    length-set (handed list numbers n) n (moveAt numbers n) ∙ length-handed list numbers n
 
 -- ---- move i of the moves' numbers is their move i
 
@@ -39,7 +40,8 @@ move-flat : (ms : List Move) (i : ℕ) (d : Move) → i < length ms → moveAt (
 unfolding flatMoves
 move-flat [] i d h = absurd (omega arith)
 move-flat (m ∷ ms) zero d h = refl
-move-flat (m ∷ ms) (suc i) d h = move-next (m .tablet .0) (m .old .0) (m .new .0) (flatMoves ms) i ∙ move-flat ms i d (omega arith)
+move-flat (m ∷ ms) (suc i) d h =
+    move-next (m .tablet .0) (m .old .0) (m .new .0) (flatMoves ms) i ∙ move-flat ms i d (omega arith)
 
 -- it reads no further than the moves
 move-take : (numbers : List ℕ) (n i : ℕ) → i < n → moveAt (take (3 * n) numbers) i ≡ moveAt numbers i
@@ -52,20 +54,23 @@ move-take numbers n i h =
 -- ---- handed out
 
 -- where the numbers' moves are these, the first n of them
-handed-firsts : (ms list : List Move) (numbers : List ℕ) (n : ℕ) → ((i : ℕ) (d : Move) → i < length ms → moveAt numbers i ≡ getD ms i d)
+handed-firsts : (ms list : List Move) (numbers : List ℕ) (n : ℕ)
+    → ((i : ℕ) (d : Move) → i < length ms → moveAt numbers i ≡ getD ms i d)
     → n ≤ length ms → n ≤ length list → handed list numbers n ≡ take n ms ++ drop n list
 unfolding handed
 handed-firsts ms list numbers zero f h k = refl
 handed-firsts ms list numbers (suc n) f h k =
     let d : Move = move 0 0 0 in
     ap₂ (λ (l : List Move) (m : Move). set l n m)
-    (handed-firsts ms list numbers n f (omega arith) (omega arith) ∙ ap (λ (l : List Move). take n ms ++ l) (drop-cons list n d k))
+    (handed-firsts ms list numbers n f (omega arith) (omega arith) ∙ ap (λ (l : List Move). take n ms ++ l)
+    (drop-cons list n d k))
     (f n d h)
     ∙ set-at (take n ms) (getD list n d) (drop (suc n) list) (getD ms n d) n (length-take-le n ms (omega arith))
     ∙ sym (append-snoc (take n ms) (getD ms n d) (drop (suc n) list))
     ∙ ap (λ (l : List Move). l ++ drop (suc n) list) (sym (take-suc ms n d h))
 
-pub handed-moves : (ms list : List Move) (numbers : List ℕ) (n : ℕ) → n ≡ length ms → n ≤ length list → take (3 * n) numbers ≡ flatMoves ms
+pub handed-moves : (ms list : List Move) (numbers : List ℕ) (n : ℕ) → n ≡ length ms → n ≤ length list
+    → take (3 * n) numbers ≡ flatMoves ms
     → handed list numbers n ≡ recorded ms list
 unfolding recorded
 handed-moves ms list numbers n e h t =

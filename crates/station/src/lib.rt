@@ -38,7 +38,8 @@ pub fn call(
     t: &mut rule::Tally,
     c: rule::Call,
 ) -> rule::Reply
-    ensures { λ r. ⌜ Answers (attended scheme (now (relays .entry)) (now (tablets .entry)) (now (list .entry)) (now (t .entry)) c)
+    ensures { λ r. ⌜ Answers (attended scheme (now (relays .entry)) (now (tablets .entry)) (now (list .entry))
+        (now (t .entry)) c)
         r (lists (now (relays .exit)) (now (tablets .exit)) (now (list .exit)), now (t .exit)) ⌝ }
 {
     let mut numbers = [0u32; tables::MOVE_NUMBERS];

@@ -26,7 +26,8 @@ begins-take (x ∷ xs) (y ∷ ys) e =
 begins-at : (xs ys : List ℕ) → begins xs ys ≡ true → (k : ℕ) → k < length xs → getD ys k 0 ≡ getD xs k 0
 unfolding begins
 begins-at [] ys e k h = absurd (omega arith)
-begins-at (x ∷ xs) [] e k h = let z : _≡_ {A = Bool} false true = e in let y : _≡_ {A = ℕ} 0 1 = cc in absurd (omega arith)
+begins-at (x ∷ xs) [] e k h =
+    let z : _≡_ {A = Bool} false true = e in let y : _≡_ {A = ℕ} 0 1 = cc in absurd (omega arith)
 begins-at (x ∷ xs) (y ∷ ys) e zero h = sym (eqb-true x y (and-left (eqb x y) (begins xs ys) e))
 begins-at (x ∷ xs) (y ∷ ys) e (suc k) h = begins-at xs ys (and-right (eqb x y) (begins xs ys) e) k (omega arith)
 
@@ -50,4 +51,5 @@ unfolding begins
 begins-front [] ys e = refl
 begins-front (x ∷ xs) [] e = let y : _≡_ {A = ℕ} 0 1 = cc in absurd (omega arith)
 begins-front (x ∷ xs) (y ∷ ys) e =
-    ap₂ _∷_ (eqb-true x y (and-left (eqb x y) (begins xs ys) e)) (begins-front xs ys (and-right (eqb x y) (begins xs ys) e))
+    ap₂ _∷_ (eqb-true x y (and-left (eqb x y) (begins xs ys) e))
+    (begins-front xs ys (and-right (eqb x y) (begins xs ys) e))

@@ -42,7 +42,8 @@ module _ {rs ts : List ℕ} {n m : ℕ} {keys room slot : List ℕ} (h : Housed 
   pub lists-start : {next : List ℕ} → next ≡ array (startAt rs room) n → Lists rs ts n m 0 s next
   lists-start e = record { points = points-start h e; fills = fills-none rs ts n m s }
 
-  module _ (j : ℕ) (l : j < m) {next : List ℕ} (y : Lists rs ts n m j s next) {i at v : ℕ} (ei : i ≡ placeOf keys slot j) (ea : at ≡ getD next i 0) (ev : v ≡ tabletNumber ts j) where
+  module _ (j : ℕ) (l : j < m) {next : List ℕ} (y : Lists rs ts n m j s next) {i at v : ℕ}
+      (ei : i ≡ placeOf keys slot j) (ea : at ≡ getD next i 0) (ev : v ≡ tabletNumber ts j) where
     index : at ≡ startOf rs ts m (placeOf keys slot j) + heldBy rs ts j (placeOf keys slot j)
     index = points-at h j l (y .points) ei ea
 
@@ -51,18 +52,21 @@ module _ {rs ts : List ℕ} {n m : ℕ} {keys room slot : List ℕ} (h : Housed 
         rw (add-one j)
         (record {
           points = points-more h j l (y .points) ei ea;
-          fills = fills-more rs ts n m j (placeOf keys slot j) (sym (h .relay j l)) (y .fills) (h .numbers) (h .places j l)
+          fills = fills-more rs ts n m j (placeOf keys slot j) (sym (h .relay j l)) (y .fills) (h .numbers)
+              (h .places j l)
               (ap (λ (z : ℕ). getD s z 0) (sym index) ∙ e ∙ ev);
         })
 
     pub lists-not : (getD s at 0 ≡ v → ⊥) → false ≡ begins (sheetFrom (relaysIn rs n) (tabletsIn ts m)) s
     lists-not d =
         let here : getD whole at 0 ≡ tabletNumber ts j =
-        ap (λ (z : ℕ). getD whole z 0) index ∙ sheet-index rs ts m n j (placeOf keys slot j) l (h .places j l) (sym (h .relay j l)) in
+        ap (λ (z : ℕ). getD whole z 0) index ∙ sheet-index rs ts m n j (placeOf keys slot j) l (h .places j l)
+        (sym (h .relay j l)) in
         sym (begins-apart whole s at (omega (arith, size, points-inside h j l (y .points) ei ea))
         (λ (u : getD s at 0 ≡ getD whole at 0). d (u ∙ here ∙ sym ev)))
 
-  pub lists-end : m ≤ length s → {j : ℕ} → j ≤ m → m ≤ j → {next : List ℕ} → Lists rs ts n m j s next → true ≡ begins (sheetFrom (relaysIn rs n) (tabletsIn ts m)) s
+  pub lists-end : m ≤ length s → {j : ℕ} → j ≤ m → m ≤ j → {next : List ℕ} → Lists rs ts n m j s next
+      → true ≡ begins (sheetFrom (relaysIn rs n) (tabletsIn ts m)) s
   lists-end w p q y =
       let f : Fills rs ts n m m s = rw (le-antisymm p q) at (y .fills) in
       sym (begins-take whole s

@@ -30,14 +30,16 @@ module _ (r : ℕ) where
   keep-none : (rs : List Entry) (low : ℕ) → Rising low (numbers rs) → r ≤ low → keep below rs ≡ []
   unfolding keep numbers
   keep-none [] low up h = refl
-  keep-none (e ∷ rs) low up h = rw (le-ltb (e .number) r (omega (arith, up .0)), keep) (keep-none rs (e .number) (up .1) (omega (arith, up .0)))
+  keep-none (e ∷ rs) low up h =
+      rw (le-ltb (e .number) r (omega (arith, up .0)), keep) (keep-none rs (e .number) (up .1) (omega (arith, up .0)))
 
   -- a number that is there is above those before it
   in-above : (rs : List Entry) (low : ℕ) → Rising low (numbers rs) → In r (numbers rs) → low < r
   unfolding numbers
   in-above [] low up i = absurd i
   in-above (e ∷ rs) low up i =
-      ⊎-elim (λ (u : r ≡ e .number). omega (arith, up .0)) (λ j. omega (arith, up .0, in-above rs (e .number) (up .1) j)) i
+      ⊎-elim (λ (u : r ≡ e .number). omega (arith, up .0))
+      (λ j. omega (arith, up .0, in-above rs (e .number) (up .1) j)) i
 
   listed : (ts : List Entry) (rest : List ℕ) (rs : List Entry) (low : ℕ) → Rising low (numbers rs) → In r (numbers rs)
       → take (load ts r) (drop (loads (keep below rs) ts) (sheetFrom rs ts ++ rest)) ≡ tabletsOf ts r
@@ -46,7 +48,14 @@ module _ (r : ℕ) where
   listed ts rest (e ∷ rs) low up i =
       ⊎-elim
       (λ (u : r ≡ e .number).
-      rw (le-ltb (e .number) r (omega arith), keep, keep-none rs (e .number) (up .1) (omega arith), ← u, append-assoc (tabletsOf ts r) (sheetFrom rs ts) rest)
+      rw (
+        le-ltb (e .number) r (omega arith),
+        keep,
+        keep-none rs (e .number) (up .1) (omega arith),
+        ← u,
+        append-assoc
+            (tabletsOf ts r) (sheetFrom rs ts) rest,
+      )
       (take-at (tabletsOf ts r) (sheetFrom rs ts ++ rest) (load ts r) (tablets-length ts r)))
       (λ j.
       rw (
@@ -70,8 +79,10 @@ module _ (p : Positions) (m : Lent) (g : Ring) (lent : List ℕ) (r : ℕ) where
       let e₂ : k₂ ≡ true = and-right k₁ k₂ e in
       let ok : right p g ≡ true = and-right (m .fit) (right p g) (and-right (m .known) (m .fit && right p g) e₁) in
       let whole : List ℕ = sheetFrom (g .relays) (g .tablets) in
-      let front : whole ++ drop (length whole) lent ≡ lent = begins-front whole lent (and-left (begins whole lent) (has (g .relays) r) e₂) in
+      let front : whole ++ drop (length whole) lent ≡ lent = begins-front whole lent
+      (and-left (begins whole lent) (has (g .relays) r) e₂) in
       rw (e, stretch)
-      (ap (λ (l : List ℕ). take (load (g .tablets) r) (drop (loads (keep (λ x. ltb (x .number) r) (g .relays)) (g .tablets)) l)) (sym front)
+      (ap (λ (l : List ℕ). take (load (g .tablets) r)
+      (drop (loads (keep (λ x. ltb (x .number) r) (g .relays)) (g .tablets)) l)) (sym front)
       ∙ listed r (g .tablets) (drop (length whole) lent) (g .relays) 0 (right-is p g ok .relays .up)
       (has-in (g .relays) r (and-right (begins whole lent) (has (g .relays) r) e₂)))

@@ -42,5 +42,11 @@ pub stretch-examples :
     ∷ stretchOf 0 relays moved own 20
     ∷ stretchOf 0 (10 ∷ 1 ∷ 15 ∷ 0 ∷ 20 ∷ 2 ∷ 30 ∷ []) tablets own 20 ∷ []
     ≡ from-to 0 0 ∷ from-to 0 0 ∷ from-to 0 0 ∷ from-to 0 0 ∷ from-to 0 0 ∷ [])
-unfolding stretchOf Sheet.stretch Sheet.sheetFits Sheet.begins Sheet.sheet Sheet.sheetFrom Sheet.tabletsOf Meaning.lentOf Meaning.ringOf Meaning.places Meaning.fitTables Meaning.restUnused Shape.relaysUsed Shape.tabletsUsed Shape.used Shape.relayFits Shape.tabletFits Shape.all Shape.unused Table.relayPlaces Table.relayNumber Table.relayLimit Table.relayWhole Table.tabletPlaces Table.tabletNumber Table.tabletRelay Table.tabletWhole Entry.has Entry.keep Entry.numbers Entry.load Entry.loads Entry.count Entry.first Rule.right Rule.rising Rule.limitsFit Rule.isJust Rule.same Rule.placement Rule.seatAll Rule.seat Rule.hasRoom Order.order Order.queued Clockwise.sooner Clockwise.distance Clockwise.clockwise Scheme.known Scheme.positions Scheme.position
+unfolding stretchOf Sheet.stretch Sheet.sheetFits Sheet.begins Sheet.sheet Sheet.sheetFrom Sheet.tabletsOf
+    Meaning.lentOf Meaning.ringOf Meaning.places Meaning.fitTables Meaning.restUnused Shape.relaysUsed Shape.tabletsUsed
+    Shape.used Shape.relayFits Shape.tabletFits Shape.all Shape.unused Table.relayPlaces Table.relayNumber
+    Table.relayLimit Table.relayWhole Table.tabletPlaces Table.tabletNumber Table.tabletRelay Table.tabletWhole
+    Entry.has Entry.keep Entry.numbers Entry.load Entry.loads Entry.count Entry.first Rule.right Rule.rising
+    Rule.limitsFit Rule.isJust Rule.same Rule.placement Rule.seatAll Rule.seat Rule.hasRoom Order.order Order.queued
+    Clockwise.sooner Clockwise.distance Clockwise.clockwise Scheme.known Scheme.positions Scheme.position
 stretch-examples = (refl, refl)

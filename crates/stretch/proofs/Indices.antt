@@ -28,18 +28,21 @@ use Rattle.loads.proofs.Starts.{startOf, heldBy, start-next, start-least}
 module _ (rs ts : List ℕ) (m : ℕ) where
   -- the tablets of each relay from its start on
   sheet-at : (n i k : ℕ) → i < n → k < heldBy rs ts m i
-      → getD (sheetFrom (relaysIn rs n) (tabletsIn ts m)) (startOf rs ts m i + k) 0 ≡ getD (tabletsOf (tabletsIn ts m) (relayNumber rs i)) k 0
+      → getD (sheetFrom (relaysIn rs n) (tabletsIn ts m)) (startOf rs ts m i + k) 0
+      ≡ getD (tabletsOf (tabletsIn ts m) (relayNumber rs i)) k 0
   sheet-at zero i k h l = absurd (omega arith)
   sheet-at (suc n) i k h l =
       let before : List ℕ = sheetFrom (relaysIn rs n) (tabletsIn ts m) in
       let own : List ℕ = tabletsOf (tabletsIn ts m) (relayNumber rs n) in
       let size : length before ≡ startOf rs ts m n = sheet-length (relaysIn rs n) (tabletsIn ts m) in
-      ap (λ (z : List ℕ). getD z (startOf rs ts m i + k) 0) (sheet-more (relayNumber rs) (relayLimit rs) n (tabletsIn ts m))
+      ap (λ (z : List ℕ). getD z (startOf rs ts m i + k) 0)
+      (sheet-more (relayNumber rs) (relayLimit rs) n (tabletsIn ts m))
       ∙ ⊎-elim
       (λ (e : i ≡ n). rw (e, ← size) (getD-append-add before own k 0))
       (λ (d : i ≡ n → ⊥).
       let c : i < n = omega arith in
-      List·getD-append before own 0 (startOf rs ts m i + k) (omega (arith, start-next rs ts m i, start-least rs ts m (suc i) n (omega arith)))
+      List·getD-append before own 0 (startOf rs ts m i + k)
+      (omega (arith, start-next rs ts m i, start-least rs ts m (suc i) n (omega arith)))
       ∙ sheet-at n i k c l)
       (eq-or-ne i n)
 
@@ -60,20 +63,23 @@ keep-append : (f : Entry → Bool) (k l : List Entry) → keep f (k ++ l) ≡ ke
 unfolding keep
 keep-append f [] l = refl
 keep-append f (e ∷ k) l =
-    split (f e) (λ s. rw (s, keep) (ap (λ (z : List Entry). e ∷ z) (keep-append f k l))) (λ s. rw (s, keep) (keep-append f k l))
+    split (f e) (λ s. rw (s, keep) (ap (λ (z : List Entry). e ∷ z) (keep-append f k l)))
+    (λ s. rw (s, keep) (keep-append f k l))
 
 module _ (f b : ℕ → ℕ) (x : ℕ) where
   abbrev below : Entry → Bool
   below e = ltb (e .number) x
 
-  keep-next : (n : ℕ) → keep below (places f b (suc n)) ≡ keep below (places f b n) ++ keep below (entry (f n) (b n) ∷ [])
+  keep-next : (n : ℕ) → keep below (places f b (suc n)) ≡ keep below (places f b n) ++ keep below
+      (entry (f n) (b n) ∷ [])
   unfolding places
   keep-next n = keep-append below (places f b n) (entry (f n) (b n) ∷ [])
 
   keep-all : (n : ℕ) → ((i : ℕ) → i < n → f i < x) → keep below (places f b n) ≡ places f b n
   unfolding places keep
   keep-all zero h = refl
-  keep-all (suc n) h = keep-next n ∙ ap₂ _++_ (keep-all n (λ i l. h i (omega arith))) (rw (lt-ltb (f n) x (h n (omega arith)), keep))
+  keep-all (suc n) h =
+      keep-next n ∙ ap₂ _++_ (keep-all n (λ i l. h i (omega arith))) (rw (lt-ltb (f n) x (h n (omega arith)), keep))
 
   pub keep-below : (n at : ℕ) → Spot f n x at → keep below (places f b n) ≡ places f b at
   unfolding keep

@@ -10,10 +10,12 @@ use Rattle.stretch.specs.declared.Span.{Span}
 use Rattle.stretch.specs.Promise.{PartOf}
 use Rattle.stretch.specs.Bounds.{Bounds}
 
-pub part-one : {s r r′ : RefT (List ℕ)} {part : Stretch} → PartOf s r part → PartOf s r′ part → (ptr r ≡ ptr r′) × (now r ≡ now r′)
+pub part-one : {s r r′ : RefT (List ℕ)} {part : Stretch} → PartOf s r part → PartOf s r′ part → (ptr r ≡ ptr r′)
+    × (now r ≡ now r′)
 part-one x y = (x .place ∙ sym (y .place), x .content ∙ sym (y .content))
 
-pub bounds-one : {part : Stretch} {size : ℕ} {s s′ : Span} → Bounds part size (s .from) (s .to) → Bounds part size (s′ .from) (s′ .to) → s ≡ s′
+pub bounds-one : {part : Stretch} {size : ℕ} {s s′ : Span} → Bounds part size (s .from) (s .to)
+    → Bounds part size (s′ .from) (s′ .to) → s ≡ s′
 bounds-one {s = s} {s′ = s′} x y =
     let f : s .from ≡ s′ .from = x .start ∙ sym (y .start) in
     let t : s .to ≡ s′ .to = omega arith in

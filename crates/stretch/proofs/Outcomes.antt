@@ -41,9 +41,11 @@ module _ (s : ℕ) (rs ts lent : List ℕ) (r : ℕ) where
 
   none-bounds : fits ≡ false → {from to : ℕ} → (from ≡ 0) × (to ≡ 0) → Bounds part (length lent) from to
   unfolding stretchOf stretch
-  none-bounds e z = rw (e, stretch) (record { order = omega arith; inside = omega arith; start = z .0; len = omega arith })
+  none-bounds e z =
+      rw (e, stretch) (record { order = omega arith; inside = omega arith; start = z .0; len = omega arith })
 
-  past-tables : fits ≡ ((known s && tablesRight s rs ts) && (begins (sheet (ringOf rs ts)) lent && has (ringOf rs ts .relays) r))
+  past-tables : fits ≡ ((known s && tablesRight s rs ts)
+      && (begins (sheet (ringOf rs ts)) lent && has (ringOf rs ts .relays) r))
   unfolding sheetFits lentOf tablesRight
   past-tables = refl
 
@@ -67,21 +69,27 @@ module _ (s : ℕ) (rs ts lent : List ℕ) (r : ℕ) where
     -- past the look, the sheet and the relay are left
     fits-is : fits ≡ (begins (sheetFrom (relaysIn rs n) (tabletsIn ts m)) lent && has (relaysIn rs n) r)
     unfolding sheet
-    fits-is = past-tables ∙ rw (b .known, b .right) (ap (λ (g : Ring). begins (sheetFrom (g .relays) (g .tablets)) lent && has (g .relays) r) (start-ring b))
+    fits-is =
+        past-tables ∙ rw (b .known, b .right) (ap
+        (λ (g : Ring). begins (sheetFrom (g .relays) (g .tablets)) lent && has (g .relays) r) (start-ring b))
 
     other : begins (sheetFrom (relaysIn rs n) (tabletsIn ts m)) lent ≡ false → fits ≡ false
     other e = fits-is ∙ rw e
 
-    pub absent-bounds : {there : Bool} → there ≡ has (relaysIn rs n) r → not there ≡ true → {from to : ℕ} → (from ≡ 0) × (to ≡ 0) → Bounds part (length lent) from to
+    pub absent-bounds : {there : Bool} → there ≡ has (relaysIn rs n) r → not there ≡ true → {from to : ℕ} → (from ≡ 0)
+        × (to ≡ 0) → Bounds part (length lent) from to
     absent-bounds et h z = none-bounds (fits-is ∙ rw (sym et ∙ not-true _ h) (and-false (begins whole lent))) z
 
-    pub other-bounds : {theirs : Bool} → theirs ≡ begins (sheetFrom (relaysIn rs n) (tabletsIn ts m)) lent → not theirs ≡ true
+    pub other-bounds : {theirs : Bool} → theirs ≡ begins (sheetFrom (relaysIn rs n) (tabletsIn ts m)) lent → not theirs
+        ≡ true
         → {from to : ℕ} → (from ≡ 0) × (to ≡ 0) → Bounds part (length lent) from to
     other-bounds eb h z = none-bounds (other (sym eb ∙ not-true _ h)) z
 
-    pub found-bounds : {there : Bool} (et : there ≡ has (relaysIn rs n) r) (ht : not there ≡ false) {at : ℕ} (sp : Spot (relayNumber rs) n r at)
+    pub found-bounds : {there : Bool} (et : there ≡ has (relaysIn rs n) r) (ht : not there ≡ false) {at : ℕ}
+        (sp : Spot (relayNumber rs) n r at)
         → {theirs : Bool} → theirs ≡ begins (sheetFrom (relaysIn rs n) (tabletsIn ts m)) lent → not theirs ≡ false
-        → {from to : ℕ} → (from ≡ startAt rs (v .room) at) × (to ≡ startAt rs (v .room) (at + 1)) → Bounds part (length lent) from to
+        → {from to : ℕ} → (from ≡ startAt rs (v .room) at) × (to ≡ startAt rs (v .room) (at + 1))
+        → Bounds part (length lent) from to
     unfolding stretchOf stretch
     found-bounds {there} et ht {at} sp {theirs} eb hb {from} {to} e =
         let own : begins whole lent ≡ true = sym eb ∙ not-false theirs hb in
@@ -90,7 +98,13 @@ module _ (s : ℕ) (rs ts lent : List ℕ) (r : ℕ) where
         rw (yes, stretch)
         (record {
           order = end-behind b et ht sp (e .0) (e .1);
-          inside = omega (arith, end-inside b et ht sp (e .0) (e .1), sheet-length (relaysIn rs n) (tabletsIn ts m), start-housed b .all);
+          inside = omega (
+            arith,
+            end-inside b et ht sp (e .0) (e .1),
+            sheet-length (relaysIn rs n)
+                (tabletsIn ts m),
+            start-housed b .all,
+          );
           start = start-here b et ht sp (e .0) (e .1);
           len = load-here b et ht sp (e .0) (e .1);
         })

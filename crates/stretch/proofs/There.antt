@@ -26,10 +26,13 @@ use Rattle.loads.proofs.Starts.{startOf, heldBy, start-next, start-least, roome
 use Rattle.loads.proofs.Housed.{start-housed}
 use Rattle.stretch.proofs.Indices.{keep-below}
 
-module _ {s : ℕ} {rs ts : List ℕ} {n m : ℕ} {v : Survey} (b : Start s rs ts n m v) {r : ℕ} {there : Bool} (et : there ≡ has (relaysIn rs n) r) (ht : not there ≡ false)
+module _ {s : ℕ} {rs ts : List ℕ} {n m : ℕ} {v : Survey} (b : Start s rs ts n m v) {r : ℕ} {there : Bool}
+    (et : there ≡ has (relaysIn rs n) r) (ht : not there ≡ false)
     {at : ℕ} (sp : Spot (relayNumber rs) n r at) where
   here : (ltb at n && eqb (relayNumber rs at) r) ≡ true
-  here = sym (has-at (relayNumber rs) (relayLimit rs) n r (start-rises b .relays) at (sp .below) (sp .from)) ∙ sym et ∙ not-false there ht
+  here =
+      sym (has-at (relayNumber rs) (relayLimit rs) n r (start-rises b .relays) at (sp .below) (sp .from)) ∙ sym et
+      ∙ not-false there ht
 
   inside : at < n
   inside = ltb-true at n (and-left (ltb at n) (eqb (relayNumber rs at) r) here)
@@ -47,13 +50,30 @@ module _ {s : ℕ} {rs ts : List ℕ} {n m : ℕ} {v : Survey} (b : Start s rs t
     start-found = ef ∙ start-is (start-housed b) at (omega (arith, inside))
 
     end-found : to ≡ from + heldBy rs ts m at
-    end-found = omega (arith, start-found, start-is (start-housed b) (suc at) (omega (arith, inside)), start-next rs ts m at, rw (add-one at) at eo)
+    end-found =
+        omega (
+          arith,
+          start-found,
+          start-is (start-housed b) (suc at) (omega (arith, inside)),
+          start-next rs ts m at,
+          rw
+              (add-one at) at eo,
+        )
 
     pub end-behind : from ≤ to
     end-behind = omega (arith, end-found)
 
     pub end-inside : to ≤ m
-    end-inside = omega (arith, end-found, start-found, start-next rs ts m at, start-least rs ts m (suc at) n (omega (arith, inside)), start-housed b .all)
+    end-inside =
+        omega (
+          arith,
+          end-found,
+          start-found,
+          start-next rs ts m at,
+          start-least rs ts m (suc at) n
+              (omega (arith, inside)),
+          start-housed b .all,
+        )
 
     -- ---- and what document 01 says
 

@@ -29,7 +29,8 @@ use Rattle.row.proofs.Led.{led, led-none}
 
 -- ---- no tablet yet
 
-pub surveyed-none : {p : Positions} {rs ts : List ℕ} {n : ℕ} {position keys room next home slot : List ℕ} → position ≡ relayPositions p rs n → Ordered position n keys
+pub surveyed-none : {p : Positions} {rs ts : List ℕ} {n : ℕ} {position keys room next home slot : List ℕ}
+    → position ≡ relayPositions p rs n → Ordered position n keys
     → room ≡ relayLimits rs n → Row keys room n 0 next → length home ≡ mostTablets → length slot ≡ mostTablets
     → Surveyed p rs ts n 0 keys room next (replicate mostRelays 0) home slot
 unfolding roomAfter lastAfter
@@ -57,7 +58,8 @@ surveyed-end {p} {rs} {ts} {n} {keys = keys} {room} {next} {last} {home} {slot} 
 -- ---- the seat of tablet j
 
 -- its home is h, and the row leads from there to slot k, whose relay is at place i
-pub record Seat (p : Positions) (rs ts : List ℕ) (n j : ℕ) (keys room next last home slot : List ℕ) (h k i : ℕ) : Type 0 where
+pub record Seat (p : Positions) (rs ts : List ℕ) (n j : ℕ) (keys room next last home slot : List ℕ)
+    (h k i : ℕ) : Type 0 where
   pub survey : Surveyed p rs ts n j keys room next last home slot
   pub few : n ≤ mostRelays
   pub small : p .tabletAt (tabletNumber ts j) < 2 ^ 32
@@ -72,7 +74,12 @@ module _ {p : Positions} {rs ts : List ℕ} {n j : ℕ} {keys room next last hom
 
   -- past the relays in use there is no room
   pub seat-below : 0 < getD room i 0 → i < n
-  seat-below w = elim (decLt i n) [ yes d ↦ d | no d ↦ absurd (omega (arith, room-beyond p rs ts n j i (omega arith), ap (λ (l : List ℕ). getD l i 0) (s .survey .left))) ]
+  seat-below w =
+      elim (decLt i n) [
+        | yes d ↦ d
+        | no d ↦ absurd
+            (omega (arith, room-beyond p rs ts n j i (omega arith), ap (λ (l : List ℕ). getD l i 0) (s .survey .left)))
+      ]
 
   room-there : getD room i 0 ≡ slotRoom keys room k
   unfolding slotRoom
@@ -88,25 +95,34 @@ module _ {p : Positions} {rs ts : List ℕ} {n j : ℕ} {keys room next last hom
     row = s .survey .row;
   }
 
-  rules : {i : ℕ} → i ≡ firstWithRoom (relayPositions p rs n) room (p .tabletAt (tabletNumber ts j)) n → i ≡ relayFor p rs ts n j
+  rules : {i : ℕ} → i ≡ firstWithRoom (relayPositions p rs n) room (p .tabletAt (tabletNumber ts j)) n
+      → i ≡ relayFor p rs ts n j
   rules e = for-tablet p rs ts n j refl (s .survey .left) refl refl e
 
   pub seat-relay : 0 < getD room i 0 → i ≡ relayFor p rs ts n j
-  seat-relay w = rules (s .relay ∙ led (s .survey .ordered) (s .few) (s .small) (s .from) leads (omega (arith, seat-below w)) (omega (arith, room-there)))
+  seat-relay w =
+      rules (s .relay ∙ led (s .survey .ordered) (s .few) (s .small) (s .from) leads (omega (arith, seat-below w))
+      (omega (arith, room-there)))
 
   seat-none : getD room i 0 ≤ 0 → 4294967295 ≡ relayFor p rs ts n j
-  seat-none w = rules (sym (led-none (s .survey .ordered) (s .few) (s .small) (s .from) leads (omega (arith, room-there))))
+  seat-none w =
+      rules (sym (led-none (s .survey .ordered) (s .few) (s .small) (s .from) leads (omega (arith, room-there))))
 
   -- the relay there has room and is written beside the tablet just where the rule's is
-  pub seat-right : {r : Bool} → r ≡ (ltb 0 (getD room i 0) && eqb (relayNumber rs i) (tabletRelay ts j)) → r ≡ placedAt p rs ts n j
+  pub seat-right : {r : Bool} → r ≡ (ltb 0 (getD room i 0) && eqb (relayNumber rs i) (tabletRelay ts j))
+      → r ≡ placedAt p rs ts n j
   unfolding placedAt
   seat-right e = e ∙ go (decLt 0 (getD room i 0))
     where
-      go : Dec (0 < getD room i 0) → (ltb 0 (getD room i 0) && eqb (relayNumber rs i) (tabletRelay ts j)) ≡ placedAt p rs ts n j
+      go : Dec (0 < getD room i 0) → (ltb 0 (getD room i 0) && eqb (relayNumber rs i) (tabletRelay ts j))
+          ≡ placedAt p rs ts n j
       go (yes w) = rw (lt-ltb 0 (getD room i 0) w, ← seat-relay w, lt-ltb i n (seat-below w))
-      go (no w) = rw (le-ltb 0 (getD room i 0) (omega arith)) (sym (placed-none p rs ts n j _ (seat-none (omega arith)) (omega (arith, s .few))))
+      go (no w) =
+          rw (le-ltb 0 (getD room i 0) (omega arith))
+          (sym (placed-none p rs ts n j _ (seat-none (omega arith)) (omega (arith, s .few))))
 
-  pub surveyed-more : {room′ next′ : List ℕ} → 0 < getD room i 0 → j < mostTablets → room′ ≡ roomLess room (slotRelay keys k) → Row keys room′ n 0 next′
+  pub surveyed-more : {room′ next′ : List ℕ} → 0 < getD room i 0 → j < mostTablets
+      → room′ ≡ roomLess room (slotRelay keys k) → Row keys room′ n 0 next′
       → Surveyed p rs ts n (j + 1) keys room′ next′ (set last i (j + 1)) (set home j (h % mostRelays)) (set slot j k)
   unfolding lastAfter
   surveyed-more w l less row = record {
@@ -117,9 +133,12 @@ module _ {p : Positions} {rs ts : List ℕ} {n j : ℕ} {keys room next last hom
     seats = record {
       homes = simp length-set (o .homes);
       slots = simp length-set (o .slots);
-      from = λ t c. stored (λ t y. HomeByte keys n (p .tabletAt (tabletNumber ts t)) y) home j (omega (arith, o .homes)) here t (λ d. o .from t (omega arith));
-      inside = λ t c. stored (λ _ y. y < n) slot j (omega (arith, o .slots)) (seat-takes w .inside) t (λ d. o .inside t (omega arith));
-      relay = λ t c. stored (λ t y. slotRelay keys y ≡ relayFor p rs ts n t) slot j (omega (arith, o .slots)) (sym (s .relay) ∙ seat-relay w) t (λ d. o .relay t (omega arith));
+      from = λ t c. stored (λ t y. HomeByte keys n (p .tabletAt (tabletNumber ts t)) y) home j
+          (omega (arith, o .homes)) here t (λ d. o .from t (omega arith));
+      inside = λ t c. stored (λ _ y. y < n) slot j (omega (arith, o .slots)) (seat-takes w .inside) t
+          (λ d. o .inside t (omega arith));
+      relay = λ t c. stored (λ t y. slotRelay keys y ≡ relayFor p rs ts n t) slot j (omega (arith, o .slots))
+          (sym (s .relay) ∙ seat-relay w) t (λ d. o .relay t (omega arith));
     };
   }
     where

@@ -31,8 +31,10 @@ fn stands_beside(
     i: usize,
     j: usize,
 ) -> bool
-    requires { ⌜ (i < mostRelays) × (0 < getD (now room) i 0 → i < relayPlaces (now relays)) × (j < tabletPlaces (now tablets)) ⌝ }
-    ensures { λ r. ⌜ r ≡ (ltb 0 (getD (now (room .entry)) i 0) && eqb (relayNumber (now (relays .entry)) i) (tabletRelay (now (tablets .entry)) j)) ⌝ }
+    requires { ⌜ (i < mostRelays) × (0 < getD (now room) i 0 → i < relayPlaces (now relays))
+        × (j < tabletPlaces (now tablets)) ⌝ }
+    ensures { λ r. ⌜ r ≡ (ltb 0 (getD (now (room .entry)) i 0) && eqb (relayNumber (now (relays .entry)) i)
+        (tabletRelay (now (tablets .entry)) j)) ⌝ }
 {
     if 0 < room[i] {
         tables::relay_number(relays, i).0 == tables::tablet_relay(tablets, j).0
@@ -44,7 +46,9 @@ fn stands_beside(
 // Are the relays written beside the m tablets the rule's? With what was learnt on the way, where they are.
 pub fn look_over(scheme: u32, relays: &[u32], tablets: &[u32], n: usize, m: usize) -> Survey
     requires { ⌜ RelaysIn (now relays) n × TabletsIn (now tablets) m ⌝ }
-    ensures { λ r. ⌜ (r .right ≡ placed (positions scheme) (now (relays .entry)) (now (tablets .entry)) n m) × (r .right ≡ true → Surveyed (positions scheme) (now (relays .entry)) (now (tablets .entry)) n m (r .keys) (r .room) (r .next) (r .last) (r .home) (r .slot)) ⌝ }
+    ensures { λ r. ⌜ (r .right ≡ placed (positions scheme) (now (relays .entry)) (now (tablets .entry)) n m)
+        × (r .right ≡ true → Surveyed (positions scheme) (now (relays .entry)) (now (tablets .entry)) n m (r .keys)
+        (r .room) (r .next) (r .last) (r .home) (r .slot)) ⌝ }
 {
     let position = placing::relay_positions(scheme, relays, n);
     let keys = order::ring_order(&position, n);

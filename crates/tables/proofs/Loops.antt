@@ -57,10 +57,12 @@ all-of f (suc n) g = rw (all-of f n (λ i h. g i (omega arith)), g n (omega arit
 -- ---- an array
 
 -- after a store at j: what is stored has the property at j, and every other element what it had
-pub stored : (P : ℕ → ℕ → Type 0) (l : List ℕ) (j : ℕ) {v : ℕ} → j < length l → P j v → (x : ℕ) → ((x ≡ j → ⊥) → P x (getD l x 0))
+pub stored : (P : ℕ → ℕ → Type 0) (l : List ℕ) (j : ℕ) {v : ℕ} → j < length l → P j v → (x : ℕ)
+    → ((x ≡ j → ⊥) → P x (getD l x 0))
     → P x (getD (set l j v) x 0)
 stored P l j {v} h here x other =
-    ⊎-elim (λ (e : x ≡ j). rw (e, getD-set-same l j v 0 h) here) (λ (d : x ≡ j → ⊥). rw (getD-set-other l j x v 0 d) (other d)) (eq-or-ne x j)
+    ⊎-elim (λ (e : x ≡ j). rw (e, getD-set-same l j v 0 h) here)
+    (λ (d : x ≡ j → ⊥). rw (getD-set-other l j x v 0 d) (other d)) (eq-or-ne x j)
 
 module _ (f : ℕ → ℕ) where
   pub array-more : {i v : ℕ} {l : List ℕ} → l ≡ array f i → v ≡ f i → set l i v ≡ array f (i + 1)
@@ -76,7 +78,8 @@ module _ (f : ℕ → ℕ) where
   unfolding array
   array-at zero k h l = absurd (not-suc-le-zero l)
   array-at (suc n) k h l =
-      stored (λ x v. v ≡ f x) (array f n) n (omega (arith, length-array n)) refl k (λ d. array-at n k (omega arith) (omega arith))
+      stored (λ x v. v ≡ f x) (array f n) n (omega (arith, length-array n)) refl k
+      (λ d. array-at n k (omega arith) (omega arith))
 
   pub array-beyond : (n k : ℕ) → n ≤ k → getD (array f n) k 0 ≡ 0
   unfolding array

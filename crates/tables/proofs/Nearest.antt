@@ -22,9 +22,11 @@ module _ (position room : List ℕ) (t : ℕ) where
   pub least-low : (n k : ℕ) → k < n → leastKey position room t n ≤ openKey position room t k
   unfolding leastKey
   least-low zero k l = absurd (not-suc-le-zero l)
-  least-low (suc n) k l = ⊎-elim (λ (e : k ≡ n). rw e (omega arith)) (λ d. omega (arith, least-low n k (omega arith))) (eq-or-ne k n)
+  least-low (suc n) k l =
+      ⊎-elim (λ (e : k ≡ n). rw e (omega arith)) (λ d. omega (arith, least-low n k (omega arith))) (eq-or-ne k n)
 
-  pub least-high : (n x : ℕ) → x ≤ nobody → ((k : ℕ) → k < n → x ≤ openKey position room t k) → x ≤ leastKey position room t n
+  pub least-high : (n x : ℕ) → x ≤ nobody → ((k : ℕ) → k < n → x ≤ openKey position room t k)
+      → x ≤ leastKey position room t n
   unfolding leastKey
   least-high zero x h f = h
   least-high (suc n) x h f = omega (arith, least-high n x h (λ k l. f k (omega arith)), f n (omega arith))
@@ -46,7 +48,8 @@ module _ (position room : List ℕ) (t : ℕ) where
   Open : ℕ → ℕ → Type 0
   Open n k = (k ≡ nobody) ⊎ ((k % 2 ^ 32 < n) × (0 < getD room (k % 2 ^ 32) 0))
 
-  open-key : (i : ℕ) → i < mostRelays → (b : Bool) → ltb 0 (getD room i 0) ≡ b → Open (suc i) (cond b (keyFrom t (getD position i 0) i) nobody)
+  open-key : (i : ℕ) → i < mostRelays → (b : Bool) → ltb 0 (getD room i 0) ≡ b
+      → Open (suc i) (cond b (keyFrom t (getD position i 0) i) nobody)
   unfolding Open keyFrom
   open-key i h true e =
       let q : (clockwise t (getD position i 0) * 2 ^ 32 + i) % 2 ^ 32 ≡ i = omega arith in
@@ -64,7 +67,8 @@ module _ (position room : List ℕ) (t : ℕ) where
   least-open (suc n) h =
       let a : Open (suc n) (leastKey position room t n) = wider n _ (least-open n (omega arith)) in
       let b : Open (suc n) (openKey position room t n) = open-key n (omega arith) _ refl in
-      min-cases _ _ (Open (suc n) (leastKey position room t (suc n))) (λ _ e. subst (Open (suc n)) (sym e) a) (λ _ e. subst (Open (suc n)) (sym e) b)
+      min-cases _ _ (Open (suc n) (leastKey position room t (suc n))) (λ _ e. subst (Open (suc n)) (sym e) a)
+      (λ _ e. subst (Open (suc n)) (sym e) b)
 
   pub first-open : {n i : ℕ} → n ≤ mostRelays → i ≡ firstWithRoom position room t n → i < n → 0 < getD room i 0
   unfolding Open firstWithRoom

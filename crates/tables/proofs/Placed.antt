@@ -12,7 +12,8 @@ use Rattle.tables.specs.Table.{relayNumber, tabletNumber, tabletRelay}
 use Rattle.tables.specs.Placement.{relayPositions, firstWithRoom, roomAfter, relayFor, placedAt}
 
 module _ (p : Positions) (rs ts : List ℕ) (n j : ℕ) where
-  pub for-tablet : {position room : List ℕ} {t x i : ℕ} → position ≡ relayPositions p rs n → room ≡ roomAfter p rs ts n j → x ≡ tabletNumber ts j → t ≡ p .tabletAt x
+  pub for-tablet : {position room : List ℕ} {t x i : ℕ} → position ≡ relayPositions p rs n
+      → room ≡ roomAfter p rs ts n j → x ≡ tabletNumber ts j → t ≡ p .tabletAt x
       → i ≡ firstWithRoom position room t n → i ≡ relayFor p rs ts n j
   unfolding relayFor
   for-tablet a b d e f = f ∙ rw (a, b, e, d)

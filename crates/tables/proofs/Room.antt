@@ -37,16 +37,20 @@ module _ (room : List ℕ) (i : ℕ) where
   same k e = (ap (λ (x : ℕ). getD room x 0) e, ap (λ (x : ℕ). getD (roomLess room i) x 0) e)
 
   pub less-open : (k : ℕ) → 0 < getD (roomLess room i) k 0 → 0 < getD room k 0
-  less-open k z = ⊎-elim (λ (e : k ≡ i). omega (arith, same k e, less-here)) (λ d. omega (arith, less-other k d)) (eq-or-ne k i)
+  less-open k z =
+      ⊎-elim (λ (e : k ≡ i). omega (arith, same k e, less-here)) (λ d. omega (arith, less-other k d)) (eq-or-ne k i)
 
   pub less-keeps : (getD room i 0 ≡ 1 → ⊥) → (k : ℕ) → 0 < getD room k 0 → 0 < getD (roomLess room i) k 0
-  less-keeps d k z = ⊎-elim (λ (e : k ≡ i). omega (arith, same k e, less-here)) (λ q. omega (arith, less-other k q)) (eq-or-ne k i)
+  less-keeps d k z =
+      ⊎-elim (λ (e : k ≡ i). omega (arith, same k e, less-here)) (λ q. omega (arith, less-other k q)) (eq-or-ne k i)
 
   less-empty : (k : ℕ) → getD room k 0 ≡ 0 → getD (roomLess room i) k 0 ≡ 0
-  less-empty k z = elim (decLt 0 (getD (roomLess room i) k 0)) [ yes d ↦ absurd (omega (arith, less-open k d)) | no d ↦ omega arith ]
+  less-empty k z =
+      elim (decLt 0 (getD (roomLess room i) k 0)) [ yes d ↦ absurd (omega (arith, less-open k d)) | no d ↦ omega arith ]
 
 module _ (p : Positions) (rs ts : List ℕ) (n : ℕ) where
-  pub room-more : (j : ℕ) {room : List ℕ} {i : ℕ} → room ≡ roomAfter p rs ts n j → i ≡ relayFor p rs ts n j → roomLess room i ≡ roomAfter p rs ts n (j + 1)
+  pub room-more : (j : ℕ) {room : List ℕ} {i : ℕ} → room ≡ roomAfter p rs ts n j → i ≡ relayFor p rs ts n j
+      → roomLess room i ≡ roomAfter p rs ts n (j + 1)
   unfolding roomAfter relayFor
   room-more j a b = rw (add-one, a, b)
 

@@ -72,4 +72,5 @@ placed p rs ts n m = all (placedAt p rs ts n) m
 -- the table pair is right
 unfoldable pub right : Positions → List ℕ → List ℕ → Bool
 right p rs ts =
-    relayShape rs (relaysUsed rs) && (tabletShape ts (tabletsUsed ts) && placed p rs ts (relaysUsed rs) (tabletsUsed ts))
+    relayShape rs (relaysUsed rs) && (tabletShape ts (tabletsUsed ts) && placed p rs ts (relaysUsed rs)
+    (tabletsUsed ts))

@@ -40,7 +40,8 @@ unusedAt number beside n i = unused (number (n + i)) (beside (n + i))
 
 -- of so many places the first n are entries, which rise strictly, and every later place is unused
 unfoldable pub shape : ℕ → (ℕ → ℕ) → (ℕ → ℕ) → ℕ → ℕ → Bool
-shape top number beside n places = leb n places && (all (entryAt top number beside) n && all (unusedAt number beside n) (places - n))
+shape top number beside n places =
+    leb n places && (all (entryAt top number beside) n && all (unusedAt number beside n) (places - n))
 
 -- ---- the two tables
 

@@ -26,7 +26,8 @@ sets-out : (vs l : List ℕ) (i : ℕ) → length l ≤ i → sets l i vs ≡ l
 sets-out [] l i h = refl
 sets-out (a ∷ vs) l i h = sets-out vs (set l i a) (suc i) (omega (arith, length-set l i a)) ∙ set-out l i a h
 
-pub puts-one : {l : List ℕ} {at : ℕ} {s m m′ : List ℕ} {n n′ : ℕ} → Puts l at s m n → Puts l at s m′ n′ → (m ≡ m′) × (n ≡ n′)
+pub puts-one : {l : List ℕ} {at : ℕ} {s m m′ : List ℕ} {n n′ : ℕ} → Puts l at s m n → Puts l at s m′ n′
+    → (m ≡ m′) × (n ≡ n′)
 puts-one p q = (p .places ∙ sym (q .places), p .behind ∙ sym (q .behind))
 
 pub puts-nothing : (l : List ℕ) {at : ℕ} → at ≤ length l → Puts l at [] l at
@@ -45,15 +46,18 @@ pub puts-text : {s t : List ℕ} → s ≡ t → {l : List ℕ} {at : ℕ} {m : 
 puts-text e p = rw e at p
 
 -- where the first text has no room, the second has none either
-onward : (l : List ℕ) (at : ℕ) (s t : List ℕ) → sets (sets l at s) (min (at + length s) (length l)) t ≡ sets l at (s ++ t)
+onward : (l : List ℕ) (at : ℕ) (s t : List ℕ) → sets (sets l at s) (min (at + length s) (length l)) t
+    ≡ sets l at (s ++ t)
 onward l at s t = split (leb (at + length s) (length l))
-    (λ h. let e : min (at + length s) (length l) ≡ at + length s = omega (arith, leb-true (at + length s) (length l) h) in
+    (λ h. let e : min (at + length s) (length l) ≡ at + length s = omega
+    (arith, leb-true (at + length s) (length l) h) in
     ap (λ k. sets (sets l at s) k t) e ∙ sym (sets-append s t l at))
     (λ h. let g : length l < at + length s = leb-false (at + length s) (length l) h in
     sets-out t (sets l at s) (min (at + length s) (length l)) (omega (arith, length-sets l at s))
     ∙ sym (sets-append s t l at ∙ sets-out t (sets l at s) (at + length s) (omega (arith, length-sets l at s))))
 
-pub puts-append : {l : List ℕ} {at : ℕ} {s m : List ℕ} {n : ℕ} → Puts l at s m n → {t k : List ℕ} {j : ℕ} → Puts m n t k j → Puts l at (s ++ t) k j
+pub puts-append : {l : List ℕ} {at : ℕ} {s m : List ℕ} {n : ℕ} → Puts l at s m n → {t k : List ℕ} {j : ℕ}
+    → Puts m n t k j → Puts l at (s ++ t) k j
 puts-append {l} {at} {s} p {t} q =
     record {
       places = q .places ∙ rw (p .places, p .behind) (onward l at s t);

@@ -16,7 +16,8 @@ use Rattle.roster.specs.Reading as Roster
 use Rattle.calls.specs.Promise.{countedAfter}
 use Rattle.wairepomuro.specs.Promise.{servedCall, servedSheet, servedReading}
 
-pub serves-call : (s : ℕ) (rs ts ms tally : List ℕ) (c : Call) {r : Reply} {l : Lists ℕ × List ℕ} {x : ℕ} {reply : List ℕ}
+pub serves-call : (s : ℕ) (rs ts ms tally : List ℕ) (c : Call) {r : Reply} {l : Lists ℕ × List ℕ} {x : ℕ}
+    {reply : List ℕ}
     → Answers (countedAfter s rs ts ms tally c) r l → (x ≡ numberOf (r .refusal)) × (reply ≡ replyNumbers r)
     → Answers (servedCall s rs ts ms tally c) x (l, reply)
 unfolding servedCall
@@ -26,12 +27,15 @@ serves-call s rs ts ms tally c a n =
       lent = λ i. (a .lent i, (n .1 ∙ ap replyNumbers (a .reply)) i);
     }
 
-pub serves-sheet : (s : ℕ) (rs ts lent : List ℕ) {r : Reply} {lent′ : List ℕ} {x : ℕ} → Answers (Sheet.after s rs ts lent) r lent′ → x ≡ numberOf (r .refusal)
+pub serves-sheet : (s : ℕ) (rs ts lent : List ℕ) {r : Reply} {lent′ : List ℕ} {x : ℕ}
+    → Answers (Sheet.after s rs ts lent) r lent′ → x ≡ numberOf (r .refusal)
     → Answers (servedSheet s rs ts lent) x lent′
 unfolding servedSheet
-serves-sheet s rs ts lent a e = record { reply = e ∙ ap (λ (r : Reply). numberOf (r .refusal)) (a .reply); lent = a .lent }
+serves-sheet s rs ts lent a e =
+    record { reply = e ∙ ap (λ (r : Reply). numberOf (r .refusal)) (a .reply); lent = a .lent }
 
-pub serves-reading : (b rs ts : List ℕ) {r : Reading} {l : List ℕ × List ℕ} {x : ℕ} → Answers (Roster.after b rs ts) r l → x ≡ numberOf (r .reply .refusal)
+pub serves-reading : (b rs ts : List ℕ) {r : Reading} {l : List ℕ × List ℕ} {x : ℕ} → Answers (Roster.after b rs ts) r l
+    → x ≡ numberOf (r .reply .refusal)
     → Answers (servedReading b rs ts) x (l, r .scheme)
 unfolding servedReading
 serves-reading b rs ts a e =

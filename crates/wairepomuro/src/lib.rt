@@ -30,7 +30,8 @@ pub extern "C" fn wairepomuro_add(
     limit: u32,
     reply: &mut [u32; 4],
 ) -> u32
-    ensures { λ x. ⌜ Answers (servedCall scheme (now (relays .entry)) (now (tablets .entry)) (now (moves .entry)) (now (tally .entry)) (Add (record { 0 = relay }) limit))
+    ensures { λ x. ⌜ Answers (servedCall scheme (now (relays .entry)) (now (tablets .entry)) (now (moves .entry))
+        (now (tally .entry)) (Add (record { 0 = relay }) limit))
         x ((lists (now (relays .exit)) (now (tablets .exit)) (now (moves .exit)), now (tally .exit)), now (reply .exit)) ⌝ }
 {
     let r = ring::RelayNumber(relay);
@@ -48,7 +49,8 @@ pub extern "C" fn wairepomuro_remove(
     relay: u32,
     reply: &mut [u32; 4],
 ) -> u32
-    ensures { λ x. ⌜ Answers (servedCall scheme (now (relays .entry)) (now (tablets .entry)) (now (moves .entry)) (now (tally .entry)) (Remove (record { 0 = relay })))
+    ensures { λ x. ⌜ Answers (servedCall scheme (now (relays .entry)) (now (tablets .entry)) (now (moves .entry))
+        (now (tally .entry)) (Remove (record { 0 = relay })))
         x ((lists (now (relays .exit)) (now (tablets .exit)) (now (moves .exit)), now (tally .exit)), now (reply .exit)) ⌝ }
 {
     let r = ring::RelayNumber(relay);
@@ -67,7 +69,8 @@ pub extern "C" fn wairepomuro_set(
     limit: u32,
     reply: &mut [u32; 4],
 ) -> u32
-    ensures { λ x. ⌜ Answers (servedCall scheme (now (relays .entry)) (now (tablets .entry)) (now (moves .entry)) (now (tally .entry)) (Set (record { 0 = relay }) limit))
+    ensures { λ x. ⌜ Answers (servedCall scheme (now (relays .entry)) (now (tablets .entry)) (now (moves .entry))
+        (now (tally .entry)) (Set (record { 0 = relay }) limit))
         x ((lists (now (relays .exit)) (now (tablets .exit)) (now (moves .exit)), now (tally .exit)), now (reply .exit)) ⌝ }
 {
     let r = ring::RelayNumber(relay);
@@ -85,7 +88,8 @@ pub extern "C" fn wairepomuro_enrol(
     tablet: u32,
     reply: &mut [u32; 4],
 ) -> u32
-    ensures { λ x. ⌜ Answers (servedCall scheme (now (relays .entry)) (now (tablets .entry)) (now (moves .entry)) (now (tally .entry)) (Enrol (record { 0 = tablet })))
+    ensures { λ x. ⌜ Answers (servedCall scheme (now (relays .entry)) (now (tablets .entry)) (now (moves .entry))
+        (now (tally .entry)) (Enrol (record { 0 = tablet })))
         x ((lists (now (relays .entry)) (now (tablets .exit)) (now (moves .exit)), now (tally .exit)), now (reply .exit)) ⌝ }
 {
     let t = ring::TabletNumber(tablet);
@@ -103,7 +107,8 @@ pub extern "C" fn wairepomuro_withdraw(
     tablet: u32,
     reply: &mut [u32; 4],
 ) -> u32
-    ensures { λ x. ⌜ Answers (servedCall scheme (now (relays .entry)) (now (tablets .entry)) (now (moves .entry)) (now (tally .entry)) (Withdraw (record { 0 = tablet })))
+    ensures { λ x. ⌜ Answers (servedCall scheme (now (relays .entry)) (now (tablets .entry)) (now (moves .entry))
+        (now (tally .entry)) (Withdraw (record { 0 = tablet })))
         x ((lists (now (relays .entry)) (now (tablets .exit)) (now (moves .exit)), now (tally .exit)), now (reply .exit)) ⌝ }
 {
     let t = ring::TabletNumber(tablet);
@@ -120,7 +125,9 @@ pub extern "C" fn wairepomuro_find(
     tablet: u32,
     reply: &mut [u32; 4],
 ) -> u32
-    ensures { λ x. ⌜ ((moves : List ℕ) → Answers (servedCall scheme (now (relays .entry)) (now (tablets .entry)) moves (now (tally .entry)) (Find (record { 0 = tablet })))
+    ensures { λ x. ⌜ ((moves : List ℕ) → Answers
+        (servedCall scheme (now (relays .entry)) (now (tablets .entry)) moves (now (tally .entry))
+        (Find (record { 0 = tablet })))
         x ((lists (now (relays .entry)) (now (tablets .entry)) moves, now (tally .exit)), now (reply .exit))) ⌝ }
 {
     let t = ring::TabletNumber(tablet);
@@ -154,7 +161,8 @@ pub extern "C" fn wairepomuro_sheet(
     tablets: &[u32],
     sheet: &mut [u32],
 ) -> u32
-    ensures { λ x. ⌜ Answers (servedSheet scheme (now (relays .entry)) (now (tablets .entry)) (now (sheet .entry))) x (now (sheet .exit)) ⌝ }
+    ensures { λ x. ⌜ Answers (servedSheet scheme (now (relays .entry)) (now (tablets .entry)) (now (sheet .entry))) x
+        (now (sheet .exit)) ⌝ }
 {
     let made = sheet::sheet(scheme, relays, tablets, sheet);
     let refusal = made.refusal;
@@ -171,7 +179,8 @@ pub extern "C" fn wairepomuro_stretch(
     relay: u32,
     start: &mut usize,
 ) -> usize
-    ensures { λ x. ⌜ Spans scheme (now (relays .entry)) (now (tablets .entry)) (now (sheet .entry)) relay x (now (start .exit)) ⌝ }
+    ensures { λ x. ⌜ Spans scheme (now (relays .entry)) (now (tablets .entry)) (now (sheet .entry)) relay x
+        (now (start .exit)) ⌝ }
 {
     let r = ring::RelayNumber(relay);
     let span = stretch::bounds(scheme, relays, tablets, sheet, r);

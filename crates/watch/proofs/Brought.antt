@@ -14,7 +14,8 @@ use Rattle.io.specs.Counts.{clamped}
 use Rattle.watch.specs.Brought.{Brings, countBy, chunkBy, endedBy}
 
 module _ {kept : ℕ} {chunk : List ℕ} where
-  pub brings-bytes : (z : ℤ) {count : ℕ} → ltZ (pos 0) z ≡ true → count ≡ clamped z (length chunk) → Brings z kept chunk count false chunk
+  pub brings-bytes : (z : ℤ) {count : ℕ} → ltZ (pos 0) z ≡ true → count ≡ clamped z (length chunk)
+      → Brings z kept chunk count false chunk
   unfolding countBy chunkBy endedBy
   brings-bytes (pos zero) more n = absurd (subst T (sym more) tt)
   brings-bytes (pos (suc k)) more n = record { count-is = n; ended-is = refl; chunk-is = refl }
@@ -33,7 +34,8 @@ module _ {kept : ℕ} {chunk : List ℕ} where
   brings-end (pos (suc k)) more less n = absurd (omega (arith, ltb-false 0 (suc k) more))
   brings-end (negsuc k) more less n = absurd (subst T less tt)
 
-  pub brings-within : (z : ℤ) {count : ℕ} {ended : Bool} {exit : List ℕ} → 0 < length chunk → Brings z kept chunk count ended exit → count ≤ length chunk
+  pub brings-within : (z : ℤ) {count : ℕ} {ended : Bool} {exit : List ℕ} → 0 < length chunk
+      → Brings z kept chunk count ended exit → count ≤ length chunk
   unfolding countBy
   brings-within (pos zero) room b = omega (arith, b .count-is)
   brings-within (pos (suc k)) room b = omega (arith, b .count-is)

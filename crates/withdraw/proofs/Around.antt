@@ -14,7 +14,8 @@ same-order : (a b c d : ℕ) → (c < d → a < b) → (a < b → c < d) → ltb
 same-order a b c d f g =
     split (ltb c d)
     (λ s. lt-ltb a b (f (ltb-true c d s)) ∙ sym s)
-    (λ s. split (ltb a b) (λ u. absurd (let l : c < d = g (ltb-true a b u) in omega (arith, ltb-false c d s))) (λ u. u ∙ sym s))
+    (λ s. split (ltb a b) (λ u. absurd (let l : c < d = g (ltb-true a b u) in omega (arith, ltb-false c d s)))
+    (λ u. u ∙ sym s))
 
 -- the way to slot k comes round, or it does not
 data Way (n h k : ℕ) : Type 0 where
@@ -28,11 +29,17 @@ way n h k few b c =
     (λ s. let l : k < h = ltb-true k h s in round l (omega arith) (rw (lt-leb h k l)))
     (λ s. let l : h ≤ k = ltb-false k h s in on l (omega arith) (rw (le-leb h k l)))
 
-nearer : (n h k l : ℕ) → n ≤ mostRelays → h ≤ n → k < n → l < n → Way n h k → Way n h l → ltb (around h k) (around h l) ≡ ltb (stepsTo n h k) (stepsTo n h l)
-nearer n h k l few w ck cl (on a e f) (on b i j) = same-order (around h k) (around h l) (stepsTo n h k) (stepsTo n h l) (λ x. omega arith) (λ x. omega arith)
-nearer n h k l few w ck cl (on a e f) (round b i j) = same-order (around h k) (around h l) (stepsTo n h k) (stepsTo n h l) (λ x. omega arith) (λ x. omega arith)
-nearer n h k l few w ck cl (round a e f) (on b i j) = same-order (around h k) (around h l) (stepsTo n h k) (stepsTo n h l) (λ x. omega arith) (λ x. omega arith)
-nearer n h k l few w ck cl (round a e f) (round b i j) = same-order (around h k) (around h l) (stepsTo n h k) (stepsTo n h l) (λ x. omega arith) (λ x. omega arith)
+nearer : (n h k l : ℕ) → n ≤ mostRelays → h ≤ n → k < n → l < n → Way n h k → Way n h l → ltb (around h k) (around h l)
+    ≡ ltb (stepsTo n h k) (stepsTo n h l)
+nearer n h k l few w ck cl (on a e f) (on b i j) =
+    same-order (around h k) (around h l) (stepsTo n h k) (stepsTo n h l) (λ x. omega arith) (λ x. omega arith)
+nearer n h k l few w ck cl (on a e f) (round b i j) =
+    same-order (around h k) (around h l) (stepsTo n h k) (stepsTo n h l) (λ x. omega arith) (λ x. omega arith)
+nearer n h k l few w ck cl (round a e f) (on b i j) =
+    same-order (around h k) (around h l) (stepsTo n h k) (stepsTo n h l) (λ x. omega arith) (λ x. omega arith)
+nearer n h k l few w ck cl (round a e f) (round b i j) =
+    same-order (around h k) (around h l) (stepsTo n h k) (stepsTo n h l) (λ x. omega arith) (λ x. omega arith)
 
-pub around-steps : (n h k l : ℕ) → n ≤ mostRelays → h ≤ n → h < mostRelays → k < n → l < n → ltb (around h k) (around h l) ≡ ltb (stepsTo n h k) (stepsTo n h l)
+pub around-steps : (n h k l : ℕ) → n ≤ mostRelays → h ≤ n → h < mostRelays → k < n → l < n
+    → ltb (around h k) (around h l) ≡ ltb (stepsTo n h k) (stepsTo n h l)
 around-steps n h k l few w b ck cl = nearer n h k l few w ck cl (way n h k few b ck) (way n h l few b cl)

@@ -42,19 +42,23 @@ use Rattle.withdraw.proofs.Around.{around-steps}
 
 module _ (p : Positions) (g : Ring) (r : Right p g) where
   -- who had passed a relay found it full of lower numbers
-  passed-lower : (q : ℕ) → q < 2 ^ 32 → (e : Entry) → Among e (g .tablets) → hadPassed p q e ≡ true → held (g .relays) q ≤ lower (g .tablets) q (e .number)
+  passed-lower : (q : ℕ) → q < 2 ^ 32 → (e : Entry) → Among e (g .tablets) → hadPassed p q e ≡ true
+      → held (g .relays) q ≤ lower (g .tablets) q (e .number)
   unfolding hadPassed
   passed-lower q small e i h =
-      let f : Fair (key p) (g .relays) (g .tablets) (e .number) (e .beside) = right-stable p g r (e .number) (e .beside) (among-sits (g .tablets) e i) in
+      let f : Fair (key p) (g .relays) (g .tablets) (e .number) (e .beside) = right-stable p g r (e .number) (e .beside)
+      (among-sits (g .tablets) e i) in
       let k : key p (e .number) q < key p (e .number) (e .beside) =
       ltb-true (key p (e .number) q) (key p (e .number) (e .beside))
-      (sym (sooner-key p (e .number) q (e .beside) small (held-small p (g .relays) (r .relays) (e .beside) (omega (arith, f .room)))) ∙ h) in
+      (sym (sooner-key p (e .number) q (e .beside) small
+      (held-small p (g .relays) (r .relays) (e .beside) (omega (arith, f .room)))) ∙ h) in
       split (ltb (lower (g .tablets) q (e .number)) (held (g .relays) q))
       (λ s. absurd (omega (arith, f .least q (ltb-true (lower (g .tablets) q (e .number)) (held (g .relays) q) s))))
       (λ s. ltb-false (lower (g .tablets) q (e .number)) (held (g .relays) q) s)
 
   -- so no greater number sits there
-  passed-greater : (q : ℕ) → q < 2 ^ 32 → (e : Entry) → Among e (g .tablets) → hadPassed p q e ≡ true → (x : ℕ) → Sits (g .tablets) x q → e .number ≤ x → ⊥
+  passed-greater : (q : ℕ) → q < 2 ^ 32 → (e : Entry) → Among e (g .tablets) → hadPassed p q e ≡ true → (x : ℕ)
+      → Sits (g .tablets) x q → e .number ≤ x → ⊥
   passed-greater q small e i h x j l =
       omega (arith, passed-lower q small e i h, lower-load-one (g .tablets) q (e .number) x j l, right-loads p g r q)
 
@@ -74,26 +78,32 @@ module _ {s : ℕ} {rs ts : List ℕ} {n m : ℕ} {v : Survey} (b : Start s rs t
   at j = entry (tabletNumber ts j) (tabletRelay ts j)
 
   there : (j : ℕ) → j < m → Among (entry (tabletNumber ts j) (tabletRelay ts j)) (tabletsIn ts m)
-  there j h = sits-among (tabletsIn ts m) (tabletNumber ts j) (tabletRelay ts j) (places-sits (tabletNumber ts) (tabletRelay ts) m j h)
+  there j h =
+      sits-among (tabletsIn ts m) (tabletNumber ts j) (tabletRelay ts j)
+      (places-sits (tabletNumber ts) (tabletRelay ts) m j h)
 
   inside : (i : ℕ) → i < m → slotRelay (v .keys) (getD (v .slot) i 0) < n
   inside i h = b .surveyed .ordered .holds .relay (getD (v .slot) i 0) (slot-within b i h)
 
   -- the tablet at place j had passed the relay of the tablet at place i
-  pub passed-at : (i j : ℕ) → i < m → j < m → passedAt (v .home) (v .slot) i j ≡ hadPassed (positions s) (tabletRelay ts i) (entry (tabletNumber ts j) (tabletRelay ts j))
+  pub passed-at : (i j : ℕ) → i < m → j < m → passedAt (v .home) (v .slot) i j ≡ hadPassed (positions s)
+      (tabletRelay ts i) (entry (tabletNumber ts j) (tabletRelay ts j))
   unfolding passedAt
   passed-at i j h l =
-      around-steps n (getD (v .home) j 0) (getD (v .slot) i 0) (getD (v .slot) j 0) (rises .relaysFit .few) (home-within b j l) (home-byte b j l) (slot-within b i h) (slot-within b j l)
+      around-steps n (getD (v .home) j 0) (getD (v .slot) i 0) (getD (v .slot) j 0) (rises .relaysFit .few)
+      (home-within b j l) (home-byte b j l) (slot-within b i h) (slot-within b j l)
       ∙ sym (passed-steps b j l (getD (v .slot) i 0) (slot-within b i h))
       ∙ ap (λ (q : ℕ). hadPassed (positions s) q (at j)) (slot-relay b i h)
 
-  has-room : (i : ℕ) → i < m → 0 < slotRoom (v .keys) (v .room) (getD (v .slot) i 0) → load (tabletsIn ts m) (tabletRelay ts i) < held (relaysIn rs n) (tabletRelay ts i)
+  has-room : (i : ℕ) → i < m → 0 < slotRoom (v .keys) (v .room) (getD (v .slot) i 0)
+      → load (tabletsIn ts m) (tabletRelay ts i) < held (relaysIn rs n) (tabletRelay ts i)
   unfolding slotRoom
   has-room i h o =
       let k : ℕ = slotRelay (v .keys) (getD (v .slot) i 0) in
       let e : getD (v .room) k 0 ≡ relayLimit rs k - load (tabletsIn ts m) (relayNumber rs k) =
       ap (λ (l : List ℕ). getD l k 0) (b .surveyed .left) ∙ right-room rises m (omega arith) k (inside i h) in
-      subst (λ (q : ℕ). load (tabletsIn ts m) q < held (relaysIn rs n) q) (slot-relay b i h) (omega (arith, held-places (relayLimit rs) (rises .relays) k (inside i h)))
+      subst (λ (q : ℕ). load (tabletsIn ts m) q < held (relaysIn rs n) q) (slot-relay b i h)
+      (omega (arith, held-places (relayLimit rs) (rises .relays) k (inside i h)))
 
   small : (i : ℕ) → i < m → tabletRelay ts i < 2 ^ 32
   small i h = tablet-relay-word (b .tabletWords) i
@@ -103,13 +113,16 @@ module _ {s : ℕ} {rs ts : List ℕ} {n m : ℕ} {v : Survey} (b : Start s rs t
       record {
         few = rises .tabletsFit .few;
         slots = λ j h. omega (arith, slot-within b j h, rises .relaysFit .few);
-        roomy = λ i j h l o. passed-at i j h l ∙ room-passed (positions s) g right (tabletRelay ts i) (has-room i h o) (at j) (there j l);
+        roomy = λ i j h l o. passed-at i j h l ∙ room-passed (positions s) g right (tabletRelay ts i) (has-room i h o)
+            (at j) (there j l);
         shut = λ i j l h p a c e.
-            passed-greater (positions s) g right (tabletRelay ts i) (small i h) (at j) (there j (omega arith)) (sym (passed-at i j h (omega arith)) ∙ p)
+            passed-greater (positions s) g right (tabletRelay ts i) (small i h) (at j) (there j (omega arith))
+            (sym (passed-at i j h (omega arith)) ∙ p)
             (tabletNumber ts l) (sits i l h c e) (rising j l a c);
       }
     where
-      sits : (i l : ℕ) → i < m → l < m → getD (v .slot) l 0 ≡ getD (v .slot) i 0 → Sits (tabletsIn ts m) (tabletNumber ts l) (tabletRelay ts i)
+      sits : (i l : ℕ) → i < m → l < m → getD (v .slot) l 0 ≡ getD (v .slot) i 0
+          → Sits (tabletsIn ts m) (tabletNumber ts l) (tabletRelay ts i)
       sits i l h c e =
           subst (λ (x : ℕ). Sits (tabletsIn ts m) (tabletNumber ts l) x)
           (sym (slot-relay b l c) ∙ ap (λ (x : ℕ). relayNumber rs (slotRelay (v .keys) x)) e ∙ slot-relay b i h)

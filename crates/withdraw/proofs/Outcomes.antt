@@ -48,7 +48,8 @@ use Rattle.withdraw.proofs.Known.{right}
 use Rattle.withdraw.proofs.Chained.{chain-moves}
 
 module _ {s : ℕ} {rs ts : List ℕ} {n m : ℕ} {v : Survey} (b : Start s rs ts n m v) (t : TabletNumber) {seat : Seat}
-    (f : SeatOf ts n m (v .home) (v .slot) (t .0) seat) {done : Bool} (ed : done ≡ isDone (seat .refusal)) (h : not done ≡ false) where
+    (f : SeatOf ts n m (v .home) (v .slot) (t .0) seat) {done : Bool} (ed : done ≡ isDone (seat .refusal))
+    (h : not done ≡ false) where
   fine : isDone (seat .refusal) ≡ true
   fine = sym ed ∙ not-false done h
 
@@ -73,13 +74,19 @@ module _ {s : ℕ} {rs ts : List ℕ} {n m : ℕ} {v : Survey} (b : Start s rs t
   unfolding edited
   enough =
       rw (start-ring b)
-      (omega (arith, right b .enough, length-delete (t .0) (besideOf (tabletsIn ts m) (t .0)) (tabletsIn ts m) 0 (right b .tablets .up) (has-sits (tabletsIn ts m) 0 (t .0) (right b .tablets .up) there)))
+      (omega (
+        arith,
+        right b .enough,
+        length-delete (t .0) (besideOf (tabletsIn ts m) (t .0)) (tabletsIn ts m) 0
+            (right b .tablets .up) (has-sits (tabletsIn ts m) 0 (t .0) (right b .tablets .up) there),
+      ))
 
   module _ {chain : Movers} (c : MoversAre (v .home) (v .slot) m (seat .at) chain) (ms : List ℕ) where
     abbrev chainMoves : List Move
     chainMoves = movesOf ts (tabletRelay ts (seat .at)) (take (chain .count) (chain .places))
 
-    moves-are : moves (positions s) (ringOf rs ts) (Withdraw t) ≡ movesOf ts (tabletRelay ts (seat .at)) (take (chain .count) (chain .places))
+    moves-are : moves (positions s) (ringOf rs ts) (Withdraw t) ≡ movesOf ts (tabletRelay ts (seat .at))
+        (take (chain .count) (chain .places))
     moves-are =
         ap (λ (x : Ring). moves (positions s) x (Withdraw t)) (start-ring b)
         ∙ withdraw-moves (positions s) g (right b) t there
@@ -91,11 +98,13 @@ module _ {s : ℕ} {rs ts : List ℕ} {n m : ℕ} {v : Survey} (b : Start s rs t
         ap length moves-are ∙ length-moves ts (tabletRelay ts (seat .at)) (take (chain .count) (chain .places))
         ∙ length-take-le (chain .count) (chain .places) (omega (arith, c .few, c .size))
 
-    pub withdraw-short : length ms / 3 < chain .count → {reply : Reply} → reply ≡ bareReply MoveListTooShort → Answers (after s rs ts ms (Withdraw t)) reply (lists rs ts ms)
+    pub withdraw-short : length ms / 3 < chain .count → {reply : Reply} → reply ≡ bareReply MoveListTooShort
+        → Answers (after s rs ts ms (Withdraw t)) reply (lists rs ts ms)
     unfolding isDone
     withdraw-short l {reply} e =
         refused-answers s rs ts ms (Withdraw t) MoveListTooShort
-        (list-refused s rs ts ms (Withdraw t) b (numbers-fine ms) enough (unfold lentOf in (rw count-is l))) refl reply e
+        (list-refused s rs ts ms (Withdraw t) b (numbers-fine ms) enough (unfold lentOf in (rw count-is l))) refl reply
+        e
 
     module _ (l : chain .count ≤ length ms / 3) where
       pub withdraw-fillers : Fillers ts ms m (chain .places) (chain .count)
@@ -110,22 +119,29 @@ module _ {s : ℕ} {rs ts : List ℕ} {n m : ℕ} {v : Survey} (b : Start s rs t
             long = omega arith;
           }
 
-      module _ {ts′ ms′ : List ℕ} (k : Filled ts ts′ m (seat .at) (movesOf ts (tabletRelay ts (seat .at)) (take (chain .count) (chain .places)))
+      module _ {ts′ ms′ : List ℕ} (k : Filled ts ts′ m (seat .at)
+          (movesOf ts (tabletRelay ts (seat .at)) (take (chain .count) (chain .places)))
           × (ms′ ≡ listed (movesOf ts (tabletRelay ts (seat .at)) (take (chain .count) (chain .places))) ms)) where
-        tablets-after : Calls.after (positions s) (ringOf rs ts) (Withdraw t) .tablets ≡ seated chainMoves (delete (tabletNumber ts (seat .at)) (tabletsIn ts m))
+        tablets-after : Calls.after (positions s) (ringOf rs ts) (Withdraw t) .tablets
+            ≡ seated chainMoves (delete (tabletNumber ts (seat .at)) (tabletsIn ts m))
         tablets-after =
             ap (λ (x : Ring). Calls.after (positions s) x (Withdraw t) .tablets) (start-ring b)
             ∙ withdraw-after (positions s) g (right b) t there
-            ∙ rw (← stands .number) (ap (λ (x : List Move). seated x (delete (tabletNumber ts (seat .at)) (tabletsIn ts m))) (sym (chain-moves b (seat .at) (stands .below))))
-            ∙ ap (λ (x : List ℕ). seated (movesOf ts (tabletRelay ts (seat .at)) x) (delete (tabletNumber ts (seat .at)) (tabletsIn ts m))) (sym (c .are))
+            ∙ rw (← stands .number) (ap (λ (x : List Move). seated x
+            (delete (tabletNumber ts (seat .at)) (tabletsIn ts m))) (sym (chain-moves b (seat .at) (stands .below))))
+            ∙ ap (λ (x : List ℕ). seated (movesOf ts (tabletRelay ts (seat .at)) x)
+            (delete (tabletNumber ts (seat .at)) (tabletsIn ts m))) (sym (c .are))
 
-        pub withdraw-done : Answers (after s rs ts ms (Withdraw t)) (replied Done (seat .relay .0) (seat .passed) (chain .count)) (lists rs ts′ ms′)
+        pub withdraw-done : Answers (after s rs ts ms (Withdraw t))
+            (replied Done (seat .relay .0) (seat .passed) (chain .count)) (lists rs ts′ ms′)
         withdraw-done =
             accepted-answers s rs ts ms (Withdraw t)
             (all-passed s rs ts ms (Withdraw t) b (numbers-fine ms) enough (unfold lentOf in (rw count-is l)))
             _ rs ts′ ms′
             (unfold accepted relayOf passed in (rw (found-relay b t stands, found-passed b t stands, count-is)))
-            (relays-stay b (Calls.after (positions s) ring (Withdraw t)) (unfold Calls.after edited in (ap (λ (x : Ring). x .relays) (start-ring b))))
-            (unfold tabletTable in (tablets-taken (k .0 .took) (tablets-whole b) (omega (arith, stands .below)) (start-rises b .tabletsFit .there) (tablets-zeros b)
+            (relays-stay b (Calls.after (positions s) ring (Withdraw t))
+            (unfold Calls.after edited in (ap (λ (x : Ring). x .relays) (start-ring b))))
+            (unfold tabletTable in (tablets-taken (k .0 .took) (tablets-whole b) (omega (arith, stands .below))
+            (start-rises b .tabletsFit .there) (tablets-zeros b)
             ∙ ap (λ (x : List Entry). filled (length ts) (flat x)) (sym tablets-after)))
             (k .1 ∙ ap (λ (x : List Move). listed x ms) (sym moves-are))

@@ -12,7 +12,8 @@ pub fn withdraw(
     moves: &mut [u32],
     t: ring::TabletNumber,
 ) -> rule::Reply
-    ensures { λ reply. ⌜ Answers (after scheme (now (relays .entry)) (now (tablets .entry)) (now (moves .entry)) (Withdraw t))
+    ensures { λ reply. ⌜ Answers (after scheme (now (relays .entry)) (now (tablets .entry)) (now (moves .entry))
+        (Withdraw t))
         reply (lists (now (relays .entry)) (now (tablets .exit)) (now (moves .exit))) ⌝ }
 {
     let l = call_start::look(scheme, relays, tablets);

@@ -29,7 +29,8 @@ use Rattle.place.proofs.Sets.{firstOf, secondOf}
 
 -- ---- the test
 
-pub rest-zeros : (number beside : ℕ → ℕ) (m most : ℕ) → restUnused number beside m most ≡ true → Zeros number beside m most
+pub rest-zeros : (number beside : ℕ → ℕ) (m most : ℕ) → restUnused number beside m most ≡ true
+    → Zeros number beside m most
 unfolding restUnused unused
 rest-zeros number beside m most e =
     let at : (i : ℕ) → m ≤ i → i < most → unused (number i) (beside i) ≡ true =
@@ -39,8 +40,10 @@ rest-zeros number beside m most e =
       besides = λ i l u. eqb-true (beside i) 0 (and-right (eqb (number i) 0) (eqb (beside i) 0) (at i l u));
     }
 
-pub zeros-behind : {number beside : ℕ → ℕ} {m most : ℕ} (k : ℕ) → m ≤ k → Zeros number beside m most → Zeros number beside k most
-zeros-behind k h z = record { numbers = λ i l u. z .numbers i (omega arith) u; besides = λ i l u. z .besides i (omega arith) u }
+pub zeros-behind : {number beside : ℕ → ℕ} {m most : ℕ} (k : ℕ) → m ≤ k → Zeros number beside m most
+    → Zeros number beside k most
+zeros-behind k h z =
+    record { numbers = λ i l u. z .numbers i (omega arith) u; besides = λ i l u. z .besides i (omega arith) u }
 
 -- ---- two numbers to a place
 
@@ -67,7 +70,8 @@ module _ (l : List ℕ) where
       ∙ sym (ap (λ (k : ℕ). take k l) a ∙ take-suc l (suc (2 * m)) 0 (omega arith)
       ∙ ap₂ (λ (k : List ℕ) (x : ℕ). k ++ (x ∷ [])) (take-suc l (2 * m) 0 (omega arith)) (ap (λ (k : ℕ). getD l k 0) b))
 
-  module _ (m : ℕ) (room : m ≤ length l / 2) (whole : eqb (length l % 2) 0 ≡ true) (zeros : Zeros (firstOf l) (secondOf l) m (length l / 2)) where
+  module _ (m : ℕ) (room : m ≤ length l / 2) (whole : eqb (length l % 2) 0 ≡ true)
+      (zeros : Zeros (firstOf l) (secondOf l) m (length l / 2)) where
     zero-at : (i : ℕ) → 2 * m ≤ i → i < length l → getD l i 0 ≡ 0
     zero-at i h k =
         let w : length l % 2 ≡ 0 = eqb-true (length l % 2) 0 whole in
@@ -84,19 +88,25 @@ module _ (l : List ℕ) where
     unfolding filled
     table-filled =
         let t : flat (places (firstOf l) (secondOf l) m) ≡ take (2 * m) l = flat-take m (omega arith) in
-        let n : length (flat (places (firstOf l) (secondOf l) m)) ≡ 2 * m = ap length t ∙ length-take-le (2 * m) l (omega arith) in
+        let n : length (flat (places (firstOf l) (secondOf l) m)) ≡ 2 * m = ap length t
+        ∙ length-take-le (2 * m) l (omega arith) in
         let d : drop (2 * m) l ≡ replicate (length l - 2 * m) 0 =
-        ext-getD 0 (drop (2 * m) l) (replicate (length l - 2 * m) 0) (length-drop (2 * m) l ∙ sym (length-replicate {A = ℕ} (length l - 2 * m) 0))
+        ext-getD 0 (drop (2 * m) l) (replicate (length l - 2 * m) 0)
+        (length-drop (2 * m) l ∙ sym (length-replicate {A = ℕ} (length l - 2 * m) 0))
         (λ i h. let k : i < length l - 2 * m = omega (arith, length-drop (2 * m) l) in
-        getD-drop (2 * m) l i 0 ∙ zero-at (2 * m + i) (omega arith) (omega arith) ∙ sym (getD-replicate (length l - 2 * m) i 0 0 k)) in
+        getD-drop (2 * m) l i 0 ∙ zero-at (2 * m + i) (omega arith) (omega arith)
+        ∙ sym (getD-replicate (length l - 2 * m) i 0 0 k)) in
         sym (take-append-drop (2 * m) l) ∙ ap₂ _++_ (sym t) (d ∙ ap (λ (k : ℕ). replicate (length l - k) 0) (sym n))
 
 -- one as long as another, of these entries and zeros behind them
-table-written : (before : List ℕ) {after : List ℕ} {m : ℕ} {es : List Entry} → length after ≡ length before → places (firstOf after) (secondOf after) m ≡ es
-    → eqb (length before % 2) 0 ≡ true → m ≤ length before / 2 → Zeros (firstOf after) (secondOf after) m (length before / 2)
+table-written : (before : List ℕ) {after : List ℕ} {m : ℕ} {es : List Entry} → length after ≡ length before
+    → places (firstOf after) (secondOf after) m ≡ es
+    → eqb (length before % 2) 0 ≡ true → m ≤ length before / 2 → Zeros (firstOf after) (secondOf after) m
+    (length before / 2)
     → after ≡ filled (length before) (flat es)
 table-written before {after = after} {m = m} size entries whole room zeros =
-    table-filled after m (rw size room) (rw size whole) (rw size zeros) ∙ ap₂ (λ (n : ℕ) (l : List Entry). filled n (flat l)) size entries
+    table-filled after m (rw size room) (rw size whole) (rw size zeros)
+    ∙ ap₂ (λ (n : ℕ) (l : List Entry). filled n (flat l)) size entries
 
 -- ---- one taken out
 
@@ -117,7 +127,8 @@ taken-zeros {numberAt = numberAt} {besideAt = besideAt} {after = after} {m = m} 
 
 -- ---- the relay table
 
-pub relays-filled : (rs : List ℕ) (n : ℕ) → relayWhole rs ≡ true → n ≤ relayPlaces rs → Zeros (relayNumber rs) (relayLimit rs) n (relayPlaces rs)
+pub relays-filled : (rs : List ℕ) (n : ℕ) → relayWhole rs ≡ true → n ≤ relayPlaces rs
+    → Zeros (relayNumber rs) (relayLimit rs) n (relayPlaces rs)
     → rs ≡ filled (length rs) (flat (relaysIn rs n))
 unfolding relayPlaces relayNumber relayLimit relayWhole
 relays-filled rs n whole room zeros = table-filled rs n room whole zeros
@@ -128,29 +139,42 @@ module _ {before after : List ℕ} {n : ℕ} {es : List Entry} where
   unfolding relayPlaces relayNumber relayLimit relayWhole
   relays-table w whole room z =
       table-written before (w .size) (w .entries) whole room
-      (record { numbers = λ i l u. w .number i l ∙ z .numbers i l u; besides = λ i l u. w .limit i l ∙ z .besides i l u })
+      (record {
+        numbers = λ i l u. w .number i l ∙ z .numbers i l u;
+        besides = λ i l u. w .limit i l
+            ∙ z .besides i l u;
+      })
 
-  pub relays-taken : TookOut relayNumber relayLimit before after (n - 1) es → relayWhole before ≡ true → 0 < n → n ≤ relayPlaces before
+  pub relays-taken : TookOut relayNumber relayLimit before after (n - 1) es → relayWhole before ≡ true → 0 < n
+      → n ≤ relayPlaces before
       → Zeros (relayNumber before) (relayLimit before) n (relayPlaces before) → after ≡ filled (length before) (flat es)
   unfolding relayPlaces relayNumber relayLimit relayWhole
   relays-taken t whole h room z = table-written before (t .size) (t .entries) whole (omega arith) (taken-zeros h z t)
 
 -- ---- the tablet table
 
-pub tablets-filled : (ts : List ℕ) (m : ℕ) → tabletWhole ts ≡ true → m ≤ tabletPlaces ts → Zeros (tabletNumber ts) (tabletRelay ts) m (tabletPlaces ts)
+pub tablets-filled : (ts : List ℕ) (m : ℕ) → tabletWhole ts ≡ true → m ≤ tabletPlaces ts
+    → Zeros (tabletNumber ts) (tabletRelay ts) m (tabletPlaces ts)
     → ts ≡ filled (length ts) (flat (tabletsIn ts m))
 unfolding tabletPlaces tabletNumber tabletRelay tabletWhole
 tablets-filled ts m whole room zeros = table-filled ts m room whole zeros
 
 module _ {before after : List ℕ} {m : ℕ} {es : List Entry} where
   pub tablets-table : WroteTablets before after m es → tabletWhole before ≡ true → m ≤ tabletPlaces before
-      → Zeros (tabletNumber before) (tabletRelay before) m (tabletPlaces before) → after ≡ filled (length before) (flat es)
+      → Zeros (tabletNumber before) (tabletRelay before) m (tabletPlaces before)
+      → after ≡ filled (length before) (flat es)
   unfolding tabletPlaces tabletNumber tabletRelay tabletWhole
   tablets-table w whole room z =
       table-written before (w .size) (w .entries) whole room
-      (record { numbers = λ i l u. w .number i l ∙ z .numbers i l u; besides = λ i l u. w .relay i l ∙ z .besides i l u })
+      (record {
+        numbers = λ i l u. w .number i l ∙ z .numbers i l u;
+        besides = λ i l u. w .relay i l
+            ∙ z .besides i l u;
+      })
 
-  pub tablets-taken : TookOut tabletNumber tabletRelay before after (m - 1) es → tabletWhole before ≡ true → 0 < m → m ≤ tabletPlaces before
-      → Zeros (tabletNumber before) (tabletRelay before) m (tabletPlaces before) → after ≡ filled (length before) (flat es)
+  pub tablets-taken : TookOut tabletNumber tabletRelay before after (m - 1) es → tabletWhole before ≡ true → 0 < m
+      → m ≤ tabletPlaces before
+      → Zeros (tabletNumber before) (tabletRelay before) m (tabletPlaces before)
+      → after ≡ filled (length before) (flat es)
   unfolding tabletPlaces tabletNumber tabletRelay tabletWhole
   tablets-taken t whole h room z = table-written before (t .size) (t .entries) whole (omega arith) (taken-zeros h z t)

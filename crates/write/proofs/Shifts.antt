@@ -49,7 +49,8 @@ module _ (f : ℕ → Entry) (m : ℕ) where
   pub raised-start : Raised f f m m
   raised-start = record { low = λ i l. refl; up = λ i l u. absurd (omega arith); high = λ i l. refl }
 
-  pub raised-next : {g h : ℕ → Entry} (j : ℕ) {e : Entry} → Raised f g m j → 0 < j → j ≤ m → Changed g h j e → e ≡ g (j - 1) → Raised f h m (j - 1)
+  pub raised-next : {g h : ℕ → Entry} (j : ℕ) {e : Entry} → Raised f g m j → 0 < j → j ≤ m → Changed g h j e
+      → e ≡ g (j - 1) → Raised f h m (j - 1)
   raised-next {h = h} j r p q c e =
       record {
         low = λ i l. c .other i (λ (z : i ≡ j). omega arith) ∙ r .low i (omega arith);
@@ -62,7 +63,8 @@ module _ (f : ℕ → Entry) (m : ℕ) where
         high = λ i l. c .other i (λ (z : i ≡ j). omega arith) ∙ r .high i l;
       }
 
-  pub raised-end : {g h : ℕ → Entry} (at x v j : ℕ) → Raised f g m j → at ≤ j → j ≤ at → Place (λ i. f i .number) m x at → Changed g h at (entry x v)
+  pub raised-end : {g h : ℕ → Entry} (at x v j : ℕ) → Raised f g m j → at ≤ j → j ≤ at → Place (λ i. f i .number) m x at
+      → Changed g h at (entry x v)
       → Wrote f h (m + 1) (insert x v (firsts f m))
   raised-end {g = g} {h = h} at x v j r l u p c =
       let s : Raised f g m at = subst (Raised f g m) (le-antisymm u l) r in
@@ -80,7 +82,8 @@ module _ (f : ℕ → Entry) (at : ℕ) where
   pub lowered-start : Lowered f f at at
   lowered-start = record { low = λ i l. refl; down = λ i l u. absurd (omega arith); high = λ i l. refl }
 
-  pub lowered-next : {g h : ℕ → Entry} (j : ℕ) {e : Entry} → Lowered f g at j → at ≤ j → Changed g h j e → e ≡ g (j + 1) → Lowered f h at (j + 1)
+  pub lowered-next : {g h : ℕ → Entry} (j : ℕ) {e : Entry} → Lowered f g at j → at ≤ j → Changed g h j e → e ≡ g (j + 1)
+      → Lowered f h at (j + 1)
   lowered-next {h = h} j r p c e =
       record {
         low = λ i l. c .other i (λ (z : i ≡ j). omega arith) ∙ r .low i l;
@@ -93,7 +96,8 @@ module _ (f : ℕ → Entry) (at : ℕ) where
         high = λ i l. c .other i (λ (z : i ≡ j). omega arith) ∙ r .high i (omega arith);
       }
 
-  pub lowered-end : {g h : ℕ → Entry} (m j : ℕ) → Lowered f g at j → at < m → j ≤ m - 1 → m - 1 ≤ j → Climbs (λ i. f i .number) m → Changed g h (m - 1) (entry 0 0)
+  pub lowered-end : {g h : ℕ → Entry} (m j : ℕ) → Lowered f g at j → at < m → j ≤ m - 1 → m - 1 ≤ j
+      → Climbs (λ i. f i .number) m → Changed g h (m - 1) (entry 0 0)
       → Took f h (m - 1) (delete (f at .number) (firsts f m))
   lowered-end {g = g} {h = h} m j r p l u climb c =
       let s : Lowered f g at (m - 1) = subst (Lowered f g at) (le-antisymm l u) r in
@@ -103,7 +107,8 @@ module _ (f : ℕ → Entry) (at : ℕ) where
       record {
         entries =
             ap (firsts h) (sym a)
-            ∙ firsts-delete f h at (λ i l. c .other i (λ (z : i ≡ m - 1). omega arith) ∙ s .low i l) n (subst (Climbs (λ i. f i .number)) (sym b) climb)
+            ∙ firsts-delete f h at (λ i l. c .other i (λ (z : i ≡ m - 1). omega arith) ∙ s .low i l) n
+            (subst (Climbs (λ i. f i .number)) (sym b) climb)
             (λ i l u. c .other i (λ (z : i ≡ m - 1). omega arith) ∙ s .down i l (omega arith))
             ∙ ap (λ (k : ℕ). delete (f at .number) (firsts f k)) b;
         zeros = c .here;
@@ -112,7 +117,8 @@ module _ (f : ℕ → Entry) (at : ℕ) where
 
 -- ---- changed
 
-pub changed-put : (f g : ℕ → Entry) (m at v : ℕ) → at < m → Climbs (λ i. f i .number) m → Changed f g at (entry (f at .number) v)
+pub changed-put : (f g : ℕ → Entry) (m at v : ℕ) → at < m → Climbs (λ i. f i .number) m
+    → Changed f g at (entry (f at .number) v)
     → Wrote f g m (put (f at .number) v (firsts f m))
 changed-put f g m at v p climb c =
     let n : ℕ = m - 1 - at in
@@ -120,7 +126,8 @@ changed-put f g m at v p climb c =
     record {
       entries =
           ap (firsts g) (sym b)
-          ∙ firsts-put f g at (λ i l. c .other i (λ (z : i ≡ at). omega arith)) n (subst (Climbs (λ i. f i .number)) (sym b) climb) v (c .here)
+          ∙ firsts-put f g at (λ i l. c .other i (λ (z : i ≡ at). omega arith)) n
+          (subst (Climbs (λ i. f i .number)) (sym b) climb) v (c .here)
           (λ i l. c .other i (λ (z : i ≡ at). omega arith))
           ∙ ap (λ (k : ℕ). put (f at .number) v (firsts f k)) b;
       later = λ i l. c .other i (λ (z : i ≡ at). omega arith);

@@ -25,7 +25,8 @@ span f a (suc n) = f a ∷ span f (suc a) n
 span-same : (f g : ℕ → Entry) (a n : ℕ) → ((i : ℕ) → a ≤ i → i < a + n → g i ≡ f i) → span g a n ≡ span f a n
 unfolding span
 span-same f g a zero h = refl
-span-same f g a (suc n) h = ap₂ _∷_ (h a (le-refl a) (omega arith)) (span-same f g (suc a) n (λ i l u. h i (omega arith) (omega arith)))
+span-same f g a (suc n) h =
+    ap₂ _∷_ (h a (le-refl a) (omega arith)) (span-same f g (suc a) n (λ i l u. h i (omega arith) (omega arith)))
 
 span-next : (f : ℕ → Entry) (a n : ℕ) → span f (suc a) n ≡ span (λ i. f (suc i)) a n
 unfolding span
@@ -35,16 +36,20 @@ span-next f a (suc n) = ap (λ (l : List Entry). f (suc a) ∷ l) (span-next f (
 firsts-same : (f g : ℕ → Entry) (n : ℕ) → ((i : ℕ) → i < n → g i ≡ f i) → firsts g n ≡ firsts f n
 unfolding places
 firsts-same f g zero h = refl
-firsts-same f g (suc n) h = ap₂ (λ (l : List Entry) (e : Entry). l ++ (e ∷ [])) (firsts-same f g n (λ i l. h i (omega arith))) (h n (omega arith))
+firsts-same f g (suc n) h =
+    ap₂ (λ (l : List Entry) (e : Entry). l ++ (e ∷ [])) (firsts-same f g n (λ i l. h i (omega arith)))
+    (h n (omega arith))
 
 firsts-span : (f : ℕ → Entry) (a n m : ℕ) → m ≡ a + n → firsts f m ≡ firsts f a ++ span f a n
 unfolding places span
 firsts-span f a zero m e = let z : m ≡ a = omega arith in ap (firsts f) z ∙ sym (append-nil (firsts f a))
-firsts-span f a (suc n) m e = firsts-span f (suc a) n m (omega arith) ∙ append-assoc (firsts f a) (f a ∷ []) (span f (suc a) n)
+firsts-span f a (suc n) m e =
+    firsts-span f (suc a) n m (omega arith) ∙ append-assoc (firsts f a) (f a ∷ []) (span f (suc a) n)
 
 -- ---- a change that passes each of the first places
 
-passes : (change : List Entry → List Entry) (f : ℕ → Entry) (k : ℕ) → ((i : ℕ) → i < k → (es : List Entry) → change (f i ∷ es) ≡ f i ∷ change es)
+passes : (change : List Entry → List Entry) (f : ℕ → Entry) (k : ℕ)
+    → ((i : ℕ) → i < k → (es : List Entry) → change (f i ∷ es) ≡ f i ∷ change es)
     → (rest : List Entry) → change (firsts f k ++ rest) ≡ firsts f k ++ change rest
 unfolding places
 passes change f zero h rest = refl
@@ -60,21 +65,25 @@ module _ (f g : ℕ → Entry) (at : ℕ) (low : (i : ℕ) → i < at → g i �
   parts : (n m : ℕ) → m ≡ at + n → firsts g m ≡ firsts f at ++ span g at n
   parts n m e = firsts-span g at n m e ∙ ap (λ (l : List Entry). l ++ span g at n) (firsts-same f g at low)
 
-  insert-span : (x v n : ℕ) → ((i : ℕ) → at ≤ i → i < at + n → x < f i .number) → insert x v (span f at n) ≡ entry x v ∷ span f at n
+  insert-span : (x v n : ℕ) → ((i : ℕ) → at ≤ i → i < at + n → x < f i .number) → insert x v (span f at n)
+      ≡ entry x v ∷ span f at n
   unfolding insert span
   insert-span x v zero h = refl
   insert-span x v (suc n) h = insert-here x v (f at) (span f (suc at) n) (h at (le-refl at) (omega arith))
 
-  pub firsts-insert : (m x v : ℕ) → Place (λ i. f i .number) m x at → g at ≡ entry x v → ((i : ℕ) → at ≤ i → i < m → g (suc i) ≡ f i)
+  pub firsts-insert : (m x v : ℕ) → Place (λ i. f i .number) m x at → g at ≡ entry x v
+      → ((i : ℕ) → at ≤ i → i < m → g (suc i) ≡ f i)
       → firsts g (suc m) ≡ insert x v (firsts f m)
   unfolding span
   firsts-insert m x v p here up =
       let n : ℕ = m - at in
       let e : m ≡ at + n = omega (arith, p .within) in
       parts (suc n) (suc m) (omega arith)
-      ∙ ap (λ (l : List Entry). firsts f at ++ l) (ap₂ _∷_ here (span-next g at n ∙ span-same f (λ i. g (suc i)) at n (λ i l u. up i l (omega arith)))
+      ∙ ap (λ (l : List Entry). firsts f at ++ l)
+      (ap₂ _∷_ here (span-next g at n ∙ span-same f (λ i. g (suc i)) at n (λ i l u. up i l (omega arith)))
       ∙ sym (insert-span x v n (λ i l u. p .above i l (omega arith))))
-      ∙ sym (passes (insert x v) f at (λ i l es. insert-past x v (f i) es (let z : f i .number < x = p .below i l in omega arith)) (span f at n))
+      ∙ sym (passes (insert x v) f at (λ i l es. insert-past x v (f i) es
+      (let z : f i .number < x = p .below i l in omega arith)) (span f at n))
       ∙ ap (insert x v) (sym (firsts-span f at n m e))
 
   module _ (n : ℕ) (climb : Climbs (λ i. f i .number) (suc (at + n))) where
@@ -86,12 +95,14 @@ module _ (f g : ℕ → Entry) (at : ℕ) (low : (i : ℕ) → i < at → g i �
     unfolding span
     all-of = firsts-span f at (suc n) (suc (at + n)) (omega arith)
 
-    pub firsts-delete : ((i : ℕ) → at ≤ i → i < at + n → g i ≡ f (suc i)) → firsts g (at + n) ≡ delete (f at .number) (firsts f (suc (at + n)))
+    pub firsts-delete : ((i : ℕ) → at ≤ i → i < at + n → g i ≡ f (suc i)) → firsts g (at + n) ≡ delete (f at .number)
+        (firsts f (suc (at + n)))
     firsts-delete down =
         parts n (at + n) refl
         ∙ ap (λ (l : List Entry). firsts f at ++ l) (span-same (λ i. f (suc i)) g at n down ∙ sym (span-next f at n)
         ∙ sym (delete-hit (f at .number) 0 (f at) (span f (suc at) n) refl))
-        ∙ sym (passes (delete (f at .number)) f at (λ i l es. delete-miss (f at .number) 0 (f i) es (behind i l)) (f at ∷ span f (suc at) n))
+        ∙ sym (passes (delete (f at .number)) f at (λ i l es. delete-miss (f at .number) 0 (f i) es (behind i l))
+        (f at ∷ span f (suc at) n))
         ∙ ap (delete (f at .number)) (sym all-of)
 
     pub firsts-put : (v : ℕ) → g at ≡ entry (f at .number) v → ((i : ℕ) → at < i → g i ≡ f i)
@@ -101,5 +112,6 @@ module _ (f g : ℕ → Entry) (at : ℕ) (low : (i : ℕ) → i < at → g i �
         parts (suc n) (suc (at + n)) (omega arith)
         ∙ ap (λ (l : List Entry). firsts f at ++ l) (ap₂ _∷_ here (span-same f g (suc at) n (λ i l u. high i l))
         ∙ sym (put-hit (f at .number) v (f at) (span f (suc at) n) refl))
-        ∙ sym (passes (put (f at .number) v) f at (λ i l es. put-miss (f at .number) v (f i) es (behind i l)) (f at ∷ span f (suc at) n))
+        ∙ sym (passes (put (f at .number) v) f at (λ i l es. put-miss (f at .number) v (f i) es (behind i l))
+        (f at ∷ span f (suc at) n))
         ∙ ap (put (f at .number) v) (sym all-of)

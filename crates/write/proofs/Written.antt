@@ -32,14 +32,18 @@ same-beside p = ap (λ (e : Entry). e .beside) p
 module _ {numberAt besideAt : List ℕ → ℕ → ℕ} {before after : List ℕ} {k : ℕ} where
   pub set-changed : {x v : ℕ} → SetPlace numberAt besideAt before after k x v
       → Changed (entryAt numberAt besideAt before) (entryAt numberAt besideAt after) k (entry x v)
-  set-changed s = record { here = ap₂ entry (s .number) (s .beside); other = λ i d. ap₂ entry (s .numbers i d) (s .besides i d) }
+  set-changed s =
+      record { here = ap₂ entry (s .number) (s .beside); other = λ i d. ap₂ entry (s .numbers i d) (s .besides i d) }
 
   pub beside-changed : {v : ℕ} → SetBeside numberAt besideAt before after k v
       → Changed (entryAt numberAt besideAt before) (entryAt numberAt besideAt after) k (entry (numberAt before k) v)
-  beside-changed s = record { here = ap₂ entry (s .numbers k) (s .beside); other = λ i d. ap₂ entry (s .numbers i) (s .besides i d) }
+  beside-changed s =
+      record { here = ap₂ entry (s .numbers k) (s .beside); other = λ i d. ap₂ entry (s .numbers i) (s .besides i d) }
 
-pub took-out : {numberAt besideAt : List ℕ → ℕ → ℕ} {before after : List ℕ} {k : ℕ} {es : List Entry} → length after ≡ length before
-    → Took (entryAt numberAt besideAt before) (entryAt numberAt besideAt after) k es → TookOut numberAt besideAt before after k es
+pub took-out : {numberAt besideAt : List ℕ → ℕ → ℕ} {before after : List ℕ} {k : ℕ} {es : List Entry} → length after
+    ≡ length before
+    → Took (entryAt numberAt besideAt before) (entryAt numberAt besideAt after) k es
+    → TookOut numberAt besideAt before after k es
 took-out e w =
     record {
       size = e;
@@ -52,7 +56,21 @@ took-out e w =
 
 module _ {before after : List ℕ} {m : ℕ} {es : List Entry} (e : length after ≡ length before) where
   pub wrote-relays : Wrote (relayAt before) (relayAt after) m es → WroteRelays before after m es
-  wrote-relays w = record { size = e; entries = w .entries; number = λ i l. same-number (w .later i l); limit = λ i l. same-beside (w .later i l) }
+  wrote-relays w =
+      record {
+        size = e;
+        entries = w .entries;
+        number = λ i l. same-number (w .later i l);
+        limit = λ i l. same-beside
+            (w .later i l);
+      }
 
   pub wrote-tablets : Wrote (tabletAt before) (tabletAt after) m es → WroteTablets before after m es
-  wrote-tablets w = record { size = e; entries = w .entries; number = λ i l. same-number (w .later i l); relay = λ i l. same-beside (w .later i l) }
+  wrote-tablets w =
+      record {
+        size = e;
+        entries = w .entries;
+        number = λ i l. same-number (w .later i l);
+        relay = λ i l. same-beside
+            (w .later i l);
+      }

@@ -13,7 +13,8 @@ ghost use Rattle.write.specs.Places.{TookOut};
 // The n entries with relay r and its limit put in at its place.
 pub fn insert_relay(relays: &mut [u32], n: usize, at: usize, r: ring::RelayNumber, limit: u32)
     requires { ⌜ (n < relayPlaces (now relays)) × Place (relayNumber (now relays)) n (r .0) at ⌝ }
-    ensures { λ _. ⌜ WroteRelays (now (relays .entry)) (now (relays .exit)) (n + 1) (insert (r .0) limit (relaysIn (now (relays .entry)) n)) ⌝ }
+    ensures { λ _. ⌜ WroteRelays (now (relays .entry)) (now (relays .exit)) (n + 1)
+        (insert (r .0) limit (relaysIn (now (relays .entry)) n)) ⌝ }
 {
     let mut i = n;
     while at < i {
@@ -34,7 +35,8 @@ pub fn insert_tablet(
     r: ring::RelayNumber,
 )
     requires { ⌜ (m < tabletPlaces (now tablets)) × Place (tabletNumber (now tablets)) m (t .0) at ⌝ }
-    ensures { λ _. ⌜ WroteTablets (now (tablets .entry)) (now (tablets .exit)) (m + 1) (insert (t .0) (r .0) (tabletsIn (now (tablets .entry)) m)) ⌝ }
+    ensures { λ _. ⌜ WroteTablets (now (tablets .entry)) (now (tablets .exit)) (m + 1)
+        (insert (t .0) (r .0) (tabletsIn (now (tablets .entry)) m)) ⌝ }
 {
     let mut j = m;
     while at < j {
@@ -51,7 +53,8 @@ pub fn insert_tablet(
 // The n entries without the one at place `at`.
 pub fn delete_relay(relays: &mut [u32], n: usize, at: usize)
     requires { ⌜ (at < n) × (n ≤ relayPlaces (now relays)) × Climbs (relayNumber (now relays)) n ⌝ }
-    ensures { λ _. ⌜ TookOut relayNumber relayLimit (now (relays .entry)) (now (relays .exit)) (n - 1) (delete (relayNumber (now (relays .entry)) at) (relaysIn (now (relays .entry)) n)) ⌝ }
+    ensures { λ _. ⌜ TookOut relayNumber relayLimit (now (relays .entry)) (now (relays .exit)) (n - 1)
+        (delete (relayNumber (now (relays .entry)) at) (relaysIn (now (relays .entry)) n)) ⌝ }
 {
     let last = n - 1;
     let mut i = at;
@@ -67,7 +70,8 @@ pub fn delete_relay(relays: &mut [u32], n: usize, at: usize)
 // The m entries without the one at place `at`.
 pub fn delete_tablet(tablets: &mut [u32], m: usize, at: usize)
     requires { ⌜ (at < m) × (m ≤ tabletPlaces (now tablets)) × Climbs (tabletNumber (now tablets)) m ⌝ }
-    ensures { λ _. ⌜ TookOut tabletNumber tabletRelay (now (tablets .entry)) (now (tablets .exit)) (m - 1) (delete (tabletNumber (now (tablets .entry)) at) (tabletsIn (now (tablets .entry)) m)) ⌝ }
+    ensures { λ _. ⌜ TookOut tabletNumber tabletRelay (now (tablets .entry)) (now (tablets .exit)) (m - 1)
+        (delete (tabletNumber (now (tablets .entry)) at) (tabletsIn (now (tablets .entry)) m)) ⌝ }
 {
     let last = m - 1;
     let mut j = at;
@@ -85,7 +89,9 @@ pub fn delete_tablet(tablets: &mut [u32], m: usize, at: usize)
 // The n entries with another limit for the relay at place i.
 pub fn limit_relay(relays: &mut [u32], n: usize, i: usize, limit: u32)
     requires { ⌜ (i < n) × (n ≤ relayPlaces (now relays)) × Climbs (relayNumber (now relays)) n ⌝ }
-    ensures { λ _. ⌜ WroteRelays (now (relays .entry)) (now (relays .exit)) n (put (relayNumber (now (relays .entry)) i) limit (relaysIn (now (relays .entry)) n)) × SetBeside relayNumber relayLimit (now (relays .entry)) (now (relays .exit)) i limit ⌝ }
+    ensures { λ _. ⌜ WroteRelays (now (relays .entry)) (now (relays .exit)) n
+        (put (relayNumber (now (relays .entry)) i) limit (relaysIn (now (relays .entry)) n))
+        × SetBeside relayNumber relayLimit (now (relays .entry)) (now (relays .exit)) i limit ⌝ }
 {
     place::set_relay_limit(relays, i, limit);
 }
@@ -93,7 +99,9 @@ pub fn limit_relay(relays: &mut [u32], n: usize, i: usize, limit: u32)
 // The m entries with the tablet at place j at relay r.
 pub fn seat_tablet(tablets: &mut [u32], m: usize, j: usize, r: ring::RelayNumber)
     requires { ⌜ (j < m) × (m ≤ tabletPlaces (now tablets)) × Climbs (tabletNumber (now tablets)) m ⌝ }
-    ensures { λ _. ⌜ WroteTablets (now (tablets .entry)) (now (tablets .exit)) m (put (tabletNumber (now (tablets .entry)) j) (r .0) (tabletsIn (now (tablets .entry)) m)) × SetBeside tabletNumber tabletRelay (now (tablets .entry)) (now (tablets .exit)) j (r .0) ⌝ }
+    ensures { λ _. ⌜ WroteTablets (now (tablets .entry)) (now (tablets .exit)) m
+        (put (tabletNumber (now (tablets .entry)) j) (r .0) (tabletsIn (now (tablets .entry)) m))
+        × SetBeside tabletNumber tabletRelay (now (tablets .entry)) (now (tablets .exit)) j (r .0) ⌝ }
 {
     place::set_tablet_relay(tablets, j, r);
 }

@@ -36,11 +36,18 @@ same-length c = search needs
 returns : tie.Need-returns
 unfolding answerText replyText
 returns c =
-    let moves = c .before .before .before .before .before .before .before .before .before .before .before .before .before .before .before .before .before .before .before .before .before .before .before .before .before .args .moves .now in
-    let refusal = puts-text (ap (λ k. numberThen k 32) (c .before .before .before .before .before .before .before .before .before .before .before .before .before .before .before .before .before .before .before .before .before .before .number .ensures)) (c .before .before .before .before .before .before .before .before .before .before .before .before .before .before .before .before .before .before .put-number .ensures) in
-    let passed = puts-append (c .before .before .before .before .before .before .before .before .before .before .put-number3 .ensures) (c .before .before .before .before .before .before .put-number4 .ensures) in
-    let reply = puts-append refusal (puts-append (c .before .before .before .before .before .before .before .before .before .before .before .before .before .before .put-number2 .ensures) passed) in
-    puts-append reply (puts-text (ap (movesText moves) (c .before .before .before .before .before .before .before .before .before .before .before .before .before .before .before .before .before .before .before .before .least .ensures)) (c .before .before .put-moves .ensures))
+    let after-put-number4 = c .before .before .before .before .before .before in
+    let after-put-number2 = after-put-number4 .before .before .before .before .before .before .before .before in
+    let after-least = after-put-number2 .before .before .before .before .before .before in
+    let at-start = after-least .before .before .before .before .before in
+    let moves = at-start .args .moves .now in
+    let refusal = puts-text (ap (λ k. numberThen k 32) (after-least .before .before .number .ensures))
+    (after-put-number2 .before .before .before .before .put-number .ensures) in
+    let passed = puts-append (after-put-number4 .before .before .before .before .put-number3 .ensures)
+    (after-put-number4 .put-number4 .ensures) in
+    let reply = puts-append refusal (puts-append (after-put-number2 .put-number2 .ensures) passed) in
+    puts-append reply (puts-text (ap (movesText moves) (after-least .least .ensures))
+    (c .before .before .put-moves .ensures))
 
 pub answer-spec : {M : Type 1} → statement M
 answer-spec =

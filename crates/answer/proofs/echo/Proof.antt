@@ -14,7 +14,9 @@ same-length : tie.Need-same-length
 same-length c = search needs
 
 returns : tie.Need-returns
-returns c = puts-append (c .before .before .before .before .before .before .put-bytes .ensures) (c .before .before .put-byte .ensures)
+returns c =
+    let after-put-bytes = c .before .before .before .before .before .before in
+    puts-append (after-put-bytes .put-bytes .ensures) (c .before .before .put-byte .ensures)
 
 pub echo-spec : {M : Type 1} → statement M
 echo-spec = tie.close (tie.spec put-bytes-requires put-byte-requires same-length returns)

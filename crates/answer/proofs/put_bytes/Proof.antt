@@ -35,10 +35,12 @@ loop-less c = search needs
 
 loop-again : tie.Need-loop-again Inv-loop μ-loop
 loop-again c =
-    let l = c .before .before .before .before .before .before .loop in
-    let bytes = c .before .before .before .before .before .before .before .before .before .args .bytes .now in
-    let h : l .i < length bytes = c .before .before .before .before .before .loop-test .taken in
-    let more : take (l .i + 1) bytes ≡ take (l .i) bytes ++ (getD bytes (l .i) 0 ∷ []) = rw (add-one, take-suc bytes (l .i) 0) in
+    let at-loop = c .before .before .before .before .before in
+    let l = at-loop .before .loop in
+    let bytes = at-loop .before .before .before .before .args .bytes .now in
+    let h : l .i < length bytes = at-loop .loop-test .taken in
+    let more : take (l .i + 1) bytes ≡ take (l .i) bytes ++ (getD bytes (l .i) 0 ∷ []) = rw
+    (add-one, take-suc bytes (l .i) 0) in
     (omega arith, rw more (puts-append (l .inv .1) (c .before .before .put-byte .ensures)))
 
 same-length : tie.Need-same-length Inv-loop μ-loop

@@ -53,8 +53,12 @@ same-length c = search needs
 returns : tie.Need-returns
 unfolding moveTextAt moveText
 returns c =
-    puts-append (c .before .before .before .before .before .before .before .before .before .before .before .before .before .before .before .before .before .put-bytes .ensures)
-    (puts-append (c .before .before .before .before .before .before .before .before .before .before .before .before .put-number .ensures) (puts-append (c .before .before .before .before .before .before .before .put-number2 .ensures) (c .before .before .put-number3 .ensures)))
+    let after-put-number2 = c .before .before .before .before .before .before .before in
+    let after-put-number = after-put-number2 .before .before .before .before .before in
+    let after-put-bytes = after-put-number .before .before .before .before .before in
+    puts-append (after-put-bytes .put-bytes .ensures)
+    (puts-append (after-put-number .put-number .ensures)
+    (puts-append (after-put-number2 .put-number2 .ensures) (c .before .before .put-number3 .ensures)))
 
 pub put-move-spec : {M : Type 1} → statement M
 put-move-spec =

@@ -22,7 +22,9 @@ unfolding movesText
 loop-holds c = (omega arith, puts-nothing _ (c .before .before .pre .0))
 
 put-move-requires : tie.Need-put-move-requires Inv-loop μ-loop
-put-move-requires c κs = (puts-within (c .before .before .loop .inv .1), omega (arith, c .before .before .before .before .before .pre .1, c .before .loop-test .taken))
+put-move-requires c κs =
+    let at-start = c .before .before .before .before .before in
+    (puts-within (c .before .before .loop .inv .1), omega (arith, at-start .pre .1, c .before .loop-test .taken))
 
 add-i : tie.Need-add-i Inv-loop μ-loop
 add-i c = search needs
@@ -33,8 +35,9 @@ loop-less c = search needs
 loop-again : tie.Need-loop-again Inv-loop μ-loop
 unfolding movesText
 loop-again c =
-    let l = c .before .before .before .before .before .loop in
-    let moves = c .before .before .before .before .before .before .before .before .args .moves .now in
+    let at-loop = c .before .before .before .before .before in
+    let l = at-loop .loop in
+    let moves = at-loop .before .before .before .args .moves .now in
     let more : movesText moves (l .i) ++ moveTextAt moves (l .i) ≡ movesText moves (l .i + 1) = rw (add-one) in
     (omega arith, puts-text more (puts-append (l .inv .1) (c .before .before .put-move .ensures)))
 
@@ -43,7 +46,8 @@ same-length c = puts-length (c .before .loop .inv .1)
 
 returns : tie.Need-returns Inv-loop μ-loop
 returns c =
-    let e : c .before .loop .i ≡ c .before .before .before .before .args .count = omega (arith, c .before .loop .inv .0, c .loop-test .left) in
+    let e : c .before .loop .i ≡ c .before .before .before .before .args .count = omega
+    (arith, c .before .loop .inv .0, c .loop-test .left) in
     rw e at (c .before .loop .inv .1)
 
 pub put-moves-spec : {M : Type 1} → statement M

@@ -29,8 +29,10 @@ same-length c = search needs
 returns : tie.Need-returns
 unfolding numberThen
 returns c =
-    let d = c .before .before .before .before .before .before .before .before .before .decimal in
-    puts-append (puts-text (d .ensures .1 .1 ∙ spelled _ _ (omega arith) (d .ensures .1 .0)) (c .before .before .before .before .before .before .put-bytes .ensures)) (c .before .before .put-byte .ensures)
+    let after-put-bytes = c .before .before .before .before .before .before in
+    let d = after-put-bytes .before .before .before .decimal in
+    puts-append (puts-text (d .ensures .1 .1 ∙ spelled _ _ (omega arith) (d .ensures .1 .0))
+    (after-put-bytes .put-bytes .ensures)) (c .before .before .put-byte .ensures)
 
 pub put-number-spec : {M : Type 1} → statement M
 put-number-spec =

@@ -12,7 +12,8 @@ mul-rounded-up-2 : tie.Need-mul-rounded-up-2
 mul-rounded-up-2 c = omega (arith, parts-small (c .pre))
 
 rounded-up-requires : tie.Need-rounded-up-requires
-rounded-up-requires c κs = (omega (arith, parts-some (c .pre)), omega (arith, parts-small (c .pre)), omega (arith, share-small (c .pre)))
+rounded-up-requires c κs =
+    (omega (arith, parts-some (c .pre)), omega (arith, parts-small (c .pre)), omega (arith, share-small (c .pre)))
 
 returns : tie.Need-returns
 unfolding balancedLimit

@@ -17,7 +17,12 @@ either-requires-4 : tie.Need-either-requires-4
 either-requires-4 c κs = search needs
 
 returns : tie.Need-returns
-returns c = c .either4 .ensures ∙ rw (c .before .either3 .ensures, c .before .before .either2 .ensures, c .before .before .before .either .ensures)
+returns c =
+    c .either4 .ensures ∙ rw (
+      c .before .either3 .ensures,
+      c .before .before .either2 .ensures,
+      c .before .before .before .either .ensures,
+    )
 
 pub some-beyond-spec : {M : Type 1} → statement M
 some-beyond-spec =

@@ -18,11 +18,25 @@ some-beyond-requires c κs = search needs
 
 returns-2 : tie.Need-returns-2
 unfolding balanceRefusal firstBar
-returns-2 c = sym (rw (← c .before .before .before .some-zero .ensures, c .before .before .if1 .left, ← c .before .some-beyond .ensures, c .if2 .taken))
+returns-2 c =
+    sym (rw (
+      ← c .before .before .before .some-zero .ensures,
+      c .before .before .if1 .left,
+      ←
+          c .before .some-beyond .ensures,
+      c .if2 .taken,
+    ))
 
 returns-3 : tie.Need-returns-3
 unfolding balanceRefusal firstBar
-returns-3 c = sym (rw (← c .before .before .before .some-zero .ensures, c .before .before .if1 .left, ← c .before .some-beyond .ensures, c .if2 .left))
+returns-3 c =
+    sym (rw (
+      ← c .before .before .before .some-zero .ensures,
+      c .before .before .if1 .left,
+      ←
+          c .before .some-beyond .ensures,
+      c .if2 .left,
+    ))
 
 pub why-not-spec : {M : Type 1} → statement M
 why-not-spec =

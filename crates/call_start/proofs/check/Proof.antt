@@ -13,7 +13,9 @@ done-requires : tie.Need-done-requires
 done-requires c κs = search needs
 
 returns : tie.Need-returns
-returns c = sym (c .before .before .first-look .ensures .refused (sym (c .before .done .ensures) ∙ not-true _ (c .if1 .taken)) .0)
+returns c =
+    sym (c .before .before .first-look .ensures .refused
+    (sym (c .before .done .ensures) ∙ not-true _ (c .if1 .taken)) .0)
 
 look-over-requires : tie.Need-look-over-requires
 look-over-requires c κs =
@@ -27,8 +29,11 @@ returns-2 : tie.Need-returns-2
 returns-2 c =
     let v = c .before .look-over .ensures in
     let first = c .before .before .before .before in
-    let l = looked _ _ _ (first .first-look .ensures) (v .0) (v .1) (c .verdict .ensures) (words-of _ (first .before .before .shared-slice-known .given)) (words-of _ (first .before .shared-slice-known2 .given)) in
+    let l = looked _ _ _ (first .first-look .ensures) (v .0) (v .1) (c .verdict .ensures)
+    (words-of _ (first .before .before .shared-slice-known .given))
+    (words-of _ (first .before .shared-slice-known2 .given)) in
     l .refusal
 
 pub check-spec : {M : Type 1} → statement M
-check-spec = tie.close (tie.spec first-look-requires done-requires returns look-over-requires verdict-requires returns-2)
+check-spec =
+    tie.close (tie.spec first-look-requires done-requires returns look-over-requires verdict-requires returns-2)

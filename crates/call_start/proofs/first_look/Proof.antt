@@ -16,7 +16,9 @@ barred-requires c κs = search needs
 
 returns : tie.Need-returns
 unfolding isDone
-returns c = barred-first _ _ _ _ SchemeUnknown refl (c .barred .ensures) (unknown-refused _ _ _ (c .before .before .scheme-known .ensures) (c .before .if1 .taken))
+returns c =
+    barred-first _ _ _ _ SchemeUnknown refl (c .barred .ensures)
+    (unknown-refused _ _ _ (c .before .before .scheme-known .ensures) (c .before .if1 .taken))
 
 shapes-requires : tie.Need-shapes-requires
 shapes-requires c κs = search needs
@@ -27,14 +29,18 @@ barred-requires-2 c κs = search needs
 returns-2 : tie.Need-returns-2
 unfolding isDone
 returns-2 c =
+    let after-before = c .before .before .before .before .before in
     let wrong = c .before .before .before .shapes .ensures .wrong (not-true _ (c .before .if2 .taken)) _ in
-    let start = c .before .before .before .before .before .before in
+    let start = after-before .before in
     barred-first _ _ _ _ TablesNotRight refl (c .barred2 .ensures)
-    (wrong-refused _ _ _ (words-of _ (start .before .shared-slice-known .given)) (words-of _ (start .shared-slice-known2 .given))
-    (c .before .before .before .before .before .scheme-known .ensures) (c .before .before .before .before .if1 .left) wrong)
+    (wrong-refused _ _ _ (words-of _ (start .before .shared-slice-known .given))
+    (words-of _ (start .shared-slice-known2 .given))
+    (after-before .scheme-known .ensures) (c .before .before .before .before .if1 .left) wrong)
 
 returns-3 : tie.Need-returns-3
-returns-3 c = passed-first _ _ _ (c .before .before .before .before .scheme-known .ensures) (c .before .before .before .if1 .left) (c .before .before .shapes .ensures) (c .if2 .left)
+returns-3 c =
+    passed-first _ _ _ (c .before .before .before .before .scheme-known .ensures) (c .before .before .before .if1 .left)
+    (c .before .before .shapes .ensures) (c .if2 .left)
 
 pub first-look-spec : {M : Type 1} → statement M
 first-look-spec =

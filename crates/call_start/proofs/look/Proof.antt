@@ -19,7 +19,9 @@ verdict-requires c κs = search needs
 returns : tie.Need-returns
 returns c =
     let v = c .before .look-over .ensures in
-    looked _ _ _ (c .before .before .first-look .ensures) (v .0) (v .1) (c .verdict .ensures) (words-of _ (c .before .before .before .before .shared-slice-known .given)) (words-of _ (c .before .before .before .shared-slice-known2 .given))
+    looked _ _ _ (c .before .before .first-look .ensures) (v .0) (v .1) (c .verdict .ensures)
+    (words-of _ (c .before .before .before .before .shared-slice-known .given))
+    (words-of _ (c .before .before .before .shared-slice-known2 .given))
 
 pub look-spec : {M : Type 1} → statement M
 look-spec = tie.close (tie.spec first-look-requires look-over-requires verdict-requires returns)

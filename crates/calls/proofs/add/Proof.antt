@@ -23,7 +23,9 @@ same-length-4 : tie.Need-same-length-4
 same-length-4 c = search needs
 
 returns : tie.Need-returns
-returns c = keeps _ _ _ _ _ _ (c .before .before .before .before .before .before .before .before .before .before .add .ensures) (c .before .before .count .ensures)
+returns c =
+    let after-add = c .before .before .before .before .before .before .before .before .before .before in
+    keeps _ _ _ _ _ _ (after-add .add .ensures) (c .before .before .count .ensures)
 
 pub add-spec : {M : Type 1} → statement M
 add-spec =

@@ -14,7 +14,9 @@ same-length : tie.Need-same-length
 same-length c = search needs
 
 returns : tie.Need-returns
-returns c = λ moves. keeps _ _ _ _ _ _ (c .before .before .before .before .find .ensures moves) (c .before .before .count .ensures)
+returns c =
+    λ moves. keeps _ _ _ _ _ _ (c .before .before .before .before .find .ensures moves)
+    (c .before .before .count .ensures)
 
 pub find-spec : {M : Type 1} → statement M
 find-spec = tie.close (tie.spec find-requires count-requires same-length returns)

@@ -23,7 +23,9 @@ same-length-4 : tie.Need-same-length-4
 same-length-4 c = search needs
 
 returns : tie.Need-returns
-returns c = keeps _ _ _ _ _ _ (c .before .before .before .before .before .before .before .before .before .before .set .ensures) (c .before .before .count .ensures)
+returns c =
+    let after-set = c .before .before .before .before .before .before .before .before .before .before in
+    keeps _ _ _ _ _ _ (after-set .set .ensures) (c .before .before .count .ensures)
 
 pub set-spec : {M : Type 1} → statement M
 set-spec =

@@ -20,7 +20,9 @@ same-length-3 : tie.Need-same-length-3
 same-length-3 c = search needs
 
 returns : tie.Need-returns
-returns c = keeps _ _ _ _ _ _ (c .before .before .before .before .before .before .before .before .withdraw .ensures) (c .before .before .count .ensures)
+returns c =
+    let after-withdraw = c .before .before .before .before .before .before .before .before in
+    keeps _ _ _ _ _ _ (after-withdraw .withdraw .ensures) (c .before .before .count .ensures)
 
 pub withdraw-spec : {M : Type 1} → statement M
 withdraw-spec =

@@ -20,7 +20,8 @@ tablet-number-requires c κs = search needs
 
 returns-2 : tie.Need-returns-2
 unfolding givesWay
-returns-2 c = rw (ne-eqb _ _ (c .before .before .before .if1 .left)) (ap (ltb _) (c .before .before .tablet-number .ensures))
+returns-2 c =
+    rw (ne-eqb _ _ (c .before .before .before .if1 .left)) (ap (ltb _) (c .before .before .tablet-number .ensures))
 
 pub gives-way-spec : {M : Type 1} → statement M
 gives-way-spec = tie.close (tie.spec returns sub-tablet-number tablet-number-requires returns-2)

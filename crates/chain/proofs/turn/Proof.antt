@@ -23,7 +23,8 @@ use Rattle.chain.proofs.turn.Statement.{statement}
 use Rattle.chain.proofs.turn.Tie as tie
 
 abbrev Inv-loop : tie.InvT-loop
-Inv-loop relays tablets n m keys last h stop t place₀ seat₀ c₀ d₀ k₀ place seat c d k = Going relays tablets n m keys h stop (t .0) place seat c d k
+Inv-loop relays tablets n m keys last h stop t place₀ seat₀ c₀ d₀ k₀ place seat c d k =
+    Going relays tablets n m keys h stop (t .0) place seat c d k
 
 abbrev μ-loop : tie.MeasureT-loop
 μ-loop relays tablets n m keys last h stop t place₀ seat₀ c₀ d₀ k₀ place seat c d k = stepsTo n h stop - d
@@ -34,7 +35,9 @@ start c = c .before .before .before
 
 -- the walker is known; the visit is done; the slot is passed: of a turn that began there
 abbrev named : tie.After-from-u16 Inv-loop μ-loop → tie.In-loop Inv-loop μ-loop
-named c = c .before .before .before .before .before .before .before
+named c =
+    let after-before = c .before .before .before .before .before .before in
+    after-before .before
 
 abbrev passed : tie.After-next-slot Inv-loop μ-loop → tie.In-loop Inv-loop μ-loop
 passed c = named (c .before .before)
@@ -43,13 +46,17 @@ loop-holds : tie.Need-loop-holds Inv-loop μ-loop
 loop-holds c = going-start (c .before .before .pre .1) _ _ refl refl
 
 slot-relay-requires : tie.Need-slot-relay-requires Inv-loop μ-loop
-slot-relay-requires c κs = let f = start (c .before) .pre .1 in omega (arith, slot-small f (c .before .loop .inv), f .rises .relaysFit .few)
+slot-relay-requires c κs =
+    let f = start (c .before) .pre .1 in omega (arith, slot-small f (c .before .loop .inv), f .rises .relaysFit .few)
 
 walker-requires : tie.Need-walker-requires Inv-loop μ-loop
 walker-requires c κs =
     let head = c .before .before in
-    let f = start (head .before) .pre .1 in
-    (omega (arith, room-for-one f (head .before .loop .inv) (head .loop-test .taken)), place-there f (head .before .loop .inv))
+    let f = start (head .before) .pre .1 in (
+      omega (arith, room-for-one f (head .before .loop .inv) (head .loop-test .taken)),
+      place-there f
+          (head .before .loop .inv),
+    )
 
 mul-from-u16 : tie.Need-mul-from-u16 Inv-loop μ-loop
 mul-from-u16 c = omega (arith, c .before .before .before .before .slot-relay .ensures .1)
@@ -62,10 +69,11 @@ from-u16-requires c κs = search needs
 
 visit-requires : tie.Need-visit-requires Inv-loop μ-loop
 visit-requires c κs =
+    let after-slot-relay = c .before .before .before .before .before .before in
     let head = named c in
     let f = start (head .before) .pre .1 in
     let going = head .before .loop .inv in
-    let relay = c .before .before .before .before .before .before .slot-relay .ensures in
+    let relay = after-slot-relay .slot-relay .ensures in
     let small = last-small f going _ (relay .0) in
     let same = c .from-u16 .ensures .0 in
     let fit = f .rises .tabletsFit in (
@@ -90,7 +98,12 @@ add-d c =
     omega (arith, steps-few f, few-relays f, more-steps f (head .before .loop .inv) (head .loop-test .taken))
 
 loop-less : tie.Need-loop-less Inv-loop μ-loop
-loop-less c = let head = passed c in omega (arith, more-steps (start (head .before) .pre .1) (head .before .loop .inv) (head .loop-test .taken))
+loop-less c =
+    let head = passed c in omega (
+      arith,
+      more-steps (start (head .before) .pre .1) (head .before .loop .inv)
+          (head .loop-test .taken),
+    )
 
 loop-again : tie.Need-loop-again Inv-loop μ-loop
 loop-again c =

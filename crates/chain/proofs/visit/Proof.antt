@@ -11,8 +11,10 @@ gives-way-requires c κs = search needs
 
 sit-down-requires : tie.Need-sit-down-requires
 sit-down-requires c κs =
-    let some-one = way-some _ _ _ (sym (c .before .before .before .gives-way .ensures) ∙ c .before .before .if1 .taken) in
-    let asked = c .before .before .before .before .before .pre in
+    let at-start = c .before .before .before .before .before in
+    let some-one = way-some _ _ _ (sym (c .before .before .before .gives-way .ensures)
+    ∙ c .before .before .if1 .taken) in
+    let asked = at-start .pre in
     (asked .0, asked .1, some-one, asked .2, asked .4, asked .5)
 
 add-result : tie.Need-add-result
@@ -27,7 +29,8 @@ returns c =
 
 returns-2 : tie.Need-returns-2
 returns-2 c =
-    visited-no (sym (c .before .gives-way .ensures) ∙ c .if1 .left) (c .before .before .before .pre .4) (c .before .before .before .pre .5) refl refl
+    visited-no (sym (c .before .gives-way .ensures) ∙ c .if1 .left) (c .before .before .before .pre .4)
+    (c .before .before .before .pre .5) refl refl
 
 pub visit-spec : {M : Type 1} → statement M
 visit-spec = tie.close (tie.spec gives-way-requires sit-down-requires add-result returns returns-2)

@@ -34,11 +34,13 @@ from-u16-requires : tie.Need-from-u16-requires
 from-u16-requires c κs = search needs
 
 tablet-number-requires : tie.Need-tablet-number-requires
-tablet-number-requires c κs = omega (arith, c .from-u16 .ensures .0, c .before .before .before .before .pre .1 (omega arith))
+tablet-number-requires c κs =
+    omega (arith, c .from-u16 .ensures .0, c .before .before .before .before .pre .1 (omega arith))
 
 returns-2 : tie.Need-returns-2
 returns-2 c =
-    c .tablet-number .ensures ∙ ap (tabletNumber _) (c .before .from-u16 .ensures .0) ∙ some-one _ _ _ _ (c .before .before .before .if1 .left)
+    c .tablet-number .ensures ∙ ap (tabletNumber _) (c .before .from-u16 .ensures .0)
+    ∙ some-one _ _ _ _ (c .before .before .before .if1 .left)
 
 pub walker-spec : {M : Type 1} → statement M
 walker-spec =

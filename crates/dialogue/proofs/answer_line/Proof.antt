@@ -28,7 +28,8 @@ same-length c = search needs
 
 returns : tie.Need-returns
 unfolding answered
-returns c = rw (c .before .before .before .before .enum-told .given .1) (shows-said (c .before .before .first-line .ensures))
+returns c =
+    rw (c .before .before .before .before .enum-told .given .1) (shows-said (c .before .before .first-line .ensures))
 
 same-length-2 : tie.Need-same-length-2
 same-length-2 c = search needs
@@ -45,7 +46,8 @@ same-length-5 c = search needs
 returns-2 : tie.Need-returns-2
 unfolding answered
 returns-2 c =
-    let line = c .before .before .before .before .before .before .before .before in
+    let after-before = c .before .before .before .before .before .before .before in
+    let line = after-before .before in
     rw (line .before .before .before .before .before .before .stage .given .1) (line .next-line .ensures)
 
 returns-3 : tie.Need-returns-3

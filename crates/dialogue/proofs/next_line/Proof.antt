@@ -42,9 +42,11 @@ same-length-4 c = search needs
 returns : tie.Need-returns
 unfolding under
 returns c =
-    let call = c .before .before .before .before .before .before .before .before .before .before .before .before in
+    let after-before = c .before .before .before .before .before .before .before .before .before .before .before in
+    let call = after-before .before in
     let known = call .before .before .before .before .before .before in
-    rw (sym (known .before .before .meaning .ensures) ∙ known .c .given .1) (shows-call _ _ _ _ _ _ (call .call .ensures) (c .before .before .answer .ensures))
+    rw (sym (known .before .before .meaning .ensures) ∙ known .c .given .1)
+    (shows-call _ _ _ _ _ _ (call .call .ensures) (c .before .before .answer .ensures))
 
 same-length-5 : tie.Need-same-length-5
 same-length-5 c = search needs
@@ -53,7 +55,8 @@ returns-2 : tie.Need-returns-2
 unfolding under
 returns-2 c =
     let told = c .before .before .before .before in
-    rw (sym (told .before .before .meaning .ensures) ∙ told .enum-told .given .1) (shows-said (c .before .before .other-line .ensures))
+    rw (sym (told .before .before .meaning .ensures) ∙ told .enum-told .given .1)
+    (shows-said (c .before .before .other-line .ensures))
 
 pub next-line-spec : {M : Type 1} → statement M
 next-line-spec =

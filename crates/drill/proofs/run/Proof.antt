@@ -7,7 +7,8 @@ use Rattle.drill.proofs.run.Statement.{statement}
 use Rattle.drill.proofs.run.Tie as tie
 
 abbrev Inv-loop : tie.InvT-loop
-Inv-loop relays₀ tablets₀ first end made tally₀ n₀ relays tablets tally n = (length relays ≡ length relays₀) × (length tablets ≡ length tablets₀)
+Inv-loop relays₀ tablets₀ first end made tally₀ n₀ relays tablets tally n =
+    (length relays ≡ length relays₀) × (length tablets ≡ length tablets₀)
 
 abbrev μ-loop : tie.MeasureT-loop
 μ-loop relays₀ tablets₀ first end made tally₀ n₀ relays tablets tally n = end - n

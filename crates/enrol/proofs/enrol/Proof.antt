@@ -52,7 +52,8 @@ same-length c = search needs
 returns : tie.Need-returns
 returns c =
     let plan = c .before .before .before in
-    refused-answers _ _ _ _ _ _ (sym (prepared plan .refusal)) (test-false _ (c .before .before .done .ensures) (c .before .if1 .taken)) _
+    refused-answers _ _ _ _ _ _ (sym (prepared plan .refusal))
+    (test-false _ (c .before .before .done .ensures) (c .before .if1 .taken)) _
     (c .bare-reply .ensures)
 
 array-read-from-u8 : tie.Need-array-read-from-u8
@@ -62,7 +63,8 @@ from-u8-requires : tie.Need-from-u8-requires
 from-u8-requires c κs = search needs
 
 relay-number-requires : tie.Need-relay-number-requires
-relay-number-requires c κs = omega (arith, c .from-u8 .ensures .0, worked (c .before .before .before .before) .seatable .relays 0 (omega arith))
+relay-number-requires c κs =
+    omega (arith, c .from-u8 .ensures .0, worked (c .before .before .before .before) .seatable .relays 0 (omega arith))
 
 seat-others-requires : tie.Need-seat-others-requires
 seat-others-requires c κs = worked (accepted (c .before .before .before .before)) .seatable
@@ -77,7 +79,8 @@ cast-t31 : tie.Need-cast-t31
 cast-t31 c = omega (arith, worked (accepted (relay (others (c .before .before .before .before)))) .short)
 
 cast-t32 : tie.Need-cast-t32
-cast-t32 c = omega (arith, worked (accepted (relay (others (c .before .before .before .before .before)))) .seatable .few)
+cast-t32 c =
+    omega (arith, worked (accepted (relay (others (c .before .before .before .before .before)))) .seatable .few)
 
 same-length-2 : tie.Need-same-length-2
 same-length-2 c = search needs

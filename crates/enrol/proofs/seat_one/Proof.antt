@@ -7,7 +7,9 @@ use Rattle.enrol.proofs.seat_one.Tie as tie
 
 -- the move is listed, from the end
 abbrev listed : tie.After-slice-known4 → tie.After-list-move
-listed c = c .before .before .before .before .before .before
+listed c =
+    let after-before = c .before .before .before .before .before in
+    after-before .before
 
 tablet-number-requires : tie.Need-tablet-number-requires
 tablet-number-requires c κs = search needs
@@ -33,8 +35,10 @@ same-length-2 c = search needs
 returns : tie.Need-returns
 returns c =
     let read = listed c .before .before in
-    sat-down _ _ _ _ _ _ _ _ _ _ _ (c .before .before .seat-tablet .ensures .0) (c .before .before .seat-tablet .ensures .1)
-    (read .before .before .tablet-number .ensures) (read .before .relay-number .ensures) (read .relay-number2 .ensures) (listed c .list-move .ensures)
+    sat-down _ _ _ _ _ _ _ _ _ _ _ (c .before .before .seat-tablet .ensures .0)
+    (c .before .before .seat-tablet .ensures .1)
+    (read .before .before .tablet-number .ensures) (read .before .relay-number .ensures) (read .relay-number2 .ensures)
+    (listed c .list-move .ensures)
 
 pub seat-one-spec : {M : Type 1} → statement M
 seat-one-spec =

@@ -22,7 +22,9 @@ start c = c .before .before .before .before
 
 -- a turn, from where its tablet and its relays are known; and that, from where the tablet is seated
 abbrev turn : tie.After-seat-one-arg2 Inv-loop μ-loop → tie.In-loop Inv-loop μ-loop
-turn c = c .before .before .before .before .before .before .before .before
+turn c =
+    let after-before = c .before .before .before .before .before .before .before in
+    after-before .before
 
 abbrev known : tie.After-slice-known4 Inv-loop μ-loop → tie.After-seat-one-arg2 Inv-loop μ-loop
 known c = c .before .before .before .before .before
@@ -43,16 +45,21 @@ from-u16-requires : tie.Need-from-u16-requires Inv-loop μ-loop
 from-u16-requires c κs = search needs
 
 element-copy-out-from-u8 : tie.Need-element-copy-out-from-u8 Inv-loop μ-loop
-element-copy-out-from-u8 c = let head = c .before .before in omega (arith, start (head .before) .pre .few, head .loop-test .taken)
+element-copy-out-from-u8 c =
+    let head = c .before .before in omega (arith, start (head .before) .pre .few, head .loop-test .taken)
 
 from-u8-requires : tie.Need-from-u8-requires Inv-loop μ-loop
 from-u8-requires c κs = search needs
 
 add-from-u8 : tie.Need-add-from-u8 Inv-loop μ-loop
-add-from-u8 c = let head = c .before .before .before .before in omega (arith, start (head .before) .pre .few, head .loop-test .taken)
+add-from-u8 c =
+    let head = c .before .before .before .before in omega
+    (arith, start (head .before) .pre .few, head .loop-test .taken)
 
 element-copy-out-from-u8-2 : tie.Need-element-copy-out-from-u8-2 Inv-loop μ-loop
-element-copy-out-from-u8-2 c = let head = c .before .before .before .before in omega (arith, start (head .before) .pre .few, head .loop-test .taken)
+element-copy-out-from-u8-2 c =
+    let head = c .before .before .before .before in omega
+    (arith, start (head .before) .pre .few, head .loop-test .taken)
 
 from-u8-requires-2 : tie.Need-from-u8-requires-2 Inv-loop μ-loop
 from-u8-requires-2 c κs = search needs
@@ -65,7 +72,12 @@ seat-one-requires c κs =
     let s = l .inv .1 0 in
     let r = start (head .before) .pre in
     let read = c .before .before in (
-      omega (arith, read .before .before .before .before .from-u16 .ensures .0, r .places (l .c + 1) (omega arith) (omega arith)),
+      omega (
+        arith,
+        read .before .before .before .before .from-u16 .ensures .0,
+        r .places (l .c + 1) (omega arith)
+            (omega arith),
+      ),
       places-still _ _ (s .size) (r .tablets),
       climbs-still (s .numbers) (r .climbs),
       omega (arith, read .before .before .from-u8 .ensures .0, r .relays (l .c) (omega arith)),
@@ -84,8 +96,10 @@ loop-again c =
     let head = turn (known c) in
     let read = known c .before .before in (
       omega (arith, head .loop-test .taken),
-      λ x. seating-more x _ _ _ _ _ _ _ (head .before .loop .inv .1 x) (omega (arith, start (head .before) .pre .list, head .loop-test .taken))
-          (sat-at (c .before .before .before .before .seat-one .ensures) (read .before .before .before .before .from-u16 .ensures .0)
+      λ x. seating-more x _ _ _ _ _ _ _ (head .before .loop .inv .1 x)
+          (omega (arith, start (head .before) .pre .list, head .loop-test .taken))
+          (sat-at (c .before .before .before .before .seat-one .ensures)
+          (read .before .before .before .before .from-u16 .ensures .0)
           (read .before .before .from-u8 .ensures .0) (read .from-u82 .ensures .0)),
     )
 

@@ -12,7 +12,9 @@ no-shapes-requires : tie.Need-no-shapes-requires
 no-shapes-requires c κs = search needs
 
 returns : tie.Need-returns
-returns c = no-shapes-are (c .no-shapes .ensures) (λ p. relays-wrong (c .before .before .before .relay-entries .ensures) p _ (c .before .if1 .taken))
+returns c =
+    no-shapes-are (c .no-shapes .ensures) (λ p. relays-wrong (c .before .before .before .relay-entries .ensures) p _
+    (c .before .if1 .taken))
 
 tablet-entries-requires : tie.Need-tablet-entries-requires
 tablet-entries-requires c κs = search needs
@@ -21,10 +23,15 @@ no-shapes-requires-2 : tie.Need-no-shapes-requires-2
 no-shapes-requires-2 c κs = search needs
 
 returns-2 : tie.Need-returns-2
-returns-2 c = no-shapes-are (c .no-shapes2 .ensures) (λ p. tablets-wrong (c .before .before .before .tablet-entries .ensures) p _ (c .before .if2 .taken))
+returns-2 c =
+    no-shapes-are (c .no-shapes2 .ensures) (λ p. tablets-wrong (c .before .before .before .tablet-entries .ensures) p _
+    (c .before .if2 .taken))
 
 returns-3 : tie.Need-returns-3
-returns-3 c = shapes-are (c .before .before .before .before .before .relay-entries .ensures) (c .before .before .tablet-entries .ensures) (c .before .before .before .if1 .left) (c .if2 .left)
+returns-3 c =
+    let after-relay-entries = c .before .before .before .before .before in
+    shapes-are (after-relay-entries .relay-entries .ensures) (c .before .before .tablet-entries .ensures)
+    (c .before .before .before .if1 .left) (c .if2 .left)
 
 pub shapes-spec : {M : Type 1} → statement M
 shapes-spec =

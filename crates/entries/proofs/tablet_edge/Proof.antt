@@ -36,13 +36,17 @@ loop-less : tie.Need-loop-less Inv-loop μ-loop
 loop-less c = omega (arith, c .before .before .before .before .loop .inv)
 
 loop-again : tie.Need-loop-again Inv-loop μ-loop
-loop-again c = edge-low _ _ (c .before .before .before .before .loop .inv) _ (omega arith) (omega (arith, c .before .before .tablet-number .ensures, c .if1 .taken))
+loop-again c =
+    edge-low _ _ (c .before .before .before .before .loop .inv) _ (omega arith)
+    (omega (arith, c .before .before .tablet-number .ensures, c .if1 .taken))
 
 loop-less-2 : tie.Need-loop-less-2 Inv-loop μ-loop
 loop-less-2 c = omega (arith, c .before .before .before .before .loop .inv)
 
 loop-again-2 : tie.Need-loop-again-2 Inv-loop μ-loop
-loop-again-2 c = edge-high _ _ (c .before .before .before .before .loop .inv) _ (omega arith) (omega arith) (omega (arith, c .before .before .tablet-number .ensures, c .if1 .left))
+loop-again-2 c =
+    edge-high _ _ (c .before .before .before .before .loop .inv) _ (omega arith) (omega arith)
+    (omega (arith, c .before .before .tablet-number .ensures, c .if1 .left))
 
 returns : tie.Need-returns Inv-loop μ-loop
 returns c = edge-end _ _ (c .before .loop .inv) (omega (arith, c .loop-test .left))

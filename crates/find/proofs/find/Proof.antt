@@ -18,10 +18,15 @@ bare-reply-requires : tie.Need-bare-reply-requires
 bare-reply-requires c κs = search needs
 
 returns : tie.Need-returns
-returns c = look-answers (c .before .before .before .look .ensures) (c .before .before .done .ensures) (c .before .if1 .taken) (c .bare-reply .ensures) _
+returns c =
+    look-answers (c .before .before .before .look .ensures) (c .before .before .done .ensures) (c .before .if1 .taken)
+    (c .bare-reply .ensures) _
 
 seat-of-requires : tie.Need-seat-of-requires
-seat-of-requires c κs = start-slotted (look-start (c .before .before .before .before .before .look .ensures) (c .before .before .before .before .done .ensures) (c .before .before .before .if1 .left))
+seat-of-requires c κs =
+    let after-look = c .before .before .before .before .before in
+    start-slotted (look-start (after-look .look .ensures) (c .before .before .before .before .done .ensures)
+    (c .before .before .before .if1 .left))
 
 done-requires-2 : tie.Need-done-requires-2
 done-requires-2 c κs = search needs
@@ -31,11 +36,16 @@ bare-reply-requires-2 c κs = search needs
 
 returns-2 : tie.Need-returns-2
 returns-2 c =
-    let b = look-start (c .before .before .before .before .before .before .before .before .before .look .ensures) (c .before .before .before .before .before .before .before .before .done .ensures) (c .before .before .before .before .before .before .before .if1 .left) in
-    seat-refused b _ (c .before .before .before .seat-of .ensures) (c .before .before .done2 .ensures) (c .before .if2 .taken) (c .bare-reply2 .ensures) _ (missing-find b _)
+    let at-if1 = c .before .before .before .before .before .before .before in
+    let b = look-start (at-if1 .before .before .look .ensures) (at-if1 .before .done .ensures) (at-if1 .if1 .left) in
+    seat-refused b _ (c .before .before .before .seat-of .ensures) (c .before .before .done2 .ensures)
+    (c .before .if2 .taken) (c .bare-reply2 .ensures) _ (missing-find b _)
 
 returns-3 : tie.Need-returns-3
-returns-3 c = find-found (look-start (c .before .before .before .before .before .before .before .before .before .look .ensures) (c .before .before .before .before .before .before .before .before .done .ensures) (c .before .before .before .before .before .before .before .if1 .left)) _ (c .before .before .before .seat-of .ensures) (c .before .before .done2 .ensures) (c .before .if2 .left)
+returns-3 c =
+    let at-if1 = c .before .before .before .before .before .before .before in
+    find-found (look-start (at-if1 .before .before .look .ensures) (at-if1 .before .done .ensures) (at-if1 .if1 .left))
+    _ (c .before .before .before .seat-of .ensures) (c .before .before .done2 .ensures) (c .before .if2 .left)
 
 pub find-spec : {M : Type 1} → statement M
 find-spec =

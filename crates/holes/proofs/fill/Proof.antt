@@ -12,7 +12,15 @@ sit-down-requires : tie.Need-sit-down-requires
 sit-down-requires c κs = search needs
 
 delete-tablet-requires : tie.Need-delete-tablet-requires
-delete-tablet-requires c κs = (c .before .before .before .before .before .before .before .before .before .before .before .before .pre .1, filled-there (c .before .before .before .before .before .before .before .before .before .before .before .before .pre .0) (c .before .before .before .before .before .before .before .before .before .before .before .before .pre .1) (c .before .before .before .before .before .before .before .before .before .before .before .before .pre .2) _ (c .before .before .before .before .before .sit-down .ensures .0), filled-climbs (c .before .before .before .before .before .before .before .before .before .before .before .before .pre .0) (c .before .before .before .before .before .before .before .before .before .before .before .before .pre .1) (c .before .before .before .before .before .before .before .before .before .before .before .before .pre .2) _ (c .before .before .before .before .before .sit-down .ensures .0))
+delete-tablet-requires c κs =
+    let after-sit-down = c .before .before .before .before .before in
+    let at-start = after-sit-down .before .before .before .before .before .before .before in (
+      at-start .pre .1,
+      filled-there (at-start .pre .0) (at-start .pre .1) (at-start .pre .2) _
+          (after-sit-down .sit-down .ensures .0),
+      filled-climbs (at-start .pre .0) (at-start .pre .1) (at-start .pre .2) _
+          (after-sit-down .sit-down .ensures .0),
+    )
 
 same-length : tie.Need-same-length
 same-length c = search needs
@@ -21,7 +29,12 @@ same-length-2 : tie.Need-same-length-2
 same-length-2 c = search needs
 
 returns : tie.Need-returns
-returns c = filled-from (c .before .before .before .before .before .before .before .before .before .before .before .before .before .before .before .pre .0) (c .before .before .before .before .before .before .before .before .before .before .before .before .before .before .before .pre .1) (c .before .before .before .before .before .before .before .before .before .before .before .before .before .before .before .pre .2) _ (c .before .before .before .before .before .before .before .before .sit-down .ensures .0) (c .before .before .delete-tablet .ensures) (c .before .before .before .before .before .before .before .before .sit-down .ensures .1) (c .before .before .before .before .before .before .before .before .before .before .before .tablet-relay .ensures)
+returns c =
+    let after-sit-down = c .before .before .before .before .before .before .before .before in
+    let at-start = after-sit-down .before .before .before .before .before .before .before in
+    filled-from (at-start .pre .0) (at-start .pre .1) (at-start .pre .2) _ (after-sit-down .sit-down .ensures .0)
+    (c .before .before .delete-tablet .ensures) (after-sit-down .sit-down .ensures .1)
+    (after-sit-down .before .before .before .tablet-relay .ensures)
 
 pub fill-spec : {M : Type 1} → statement M
 fill-spec =

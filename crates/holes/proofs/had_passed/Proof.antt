@@ -20,8 +20,10 @@ wrapping-sub-u8-requires-2 c κs = search needs
 returns : tie.Need-returns
 returns c =
     rw (
-      wrapped (c .before .wrapping-sub-u8 .result) (c .before .before .args .h) (c .before .before .args .other) (omega arith) (omega arith) (c .before .wrapping-sub-u8 .ensures),
-      wrapped (c .wrapping-sub-u82 .result) (c .before .before .args .h) (c .before .before .args .k) (omega arith) (omega arith) (c .wrapping-sub-u82 .ensures),
+      wrapped (c .before .wrapping-sub-u8 .result) (c .before .before .args .h) (c .before .before .args .other)
+          (omega arith) (omega arith) (c .before .wrapping-sub-u8 .ensures),
+      wrapped (c .wrapping-sub-u82 .result) (c .before .before .args .h) (c .before .before .args .k) (omega arith)
+          (omega arith) (c .wrapping-sub-u82 .ensures),
     )
 
 pub had-passed-spec : {M : Type 1} → statement M

@@ -33,16 +33,20 @@ add-count : tie.Need-add-count Inv-loop μ-loop
 add-count c = omega (arith, swept-few _ _ _ _ (c .before .loop .inv))
 
 next-mover-requires-2 : tie.Need-next-mover-requires-2 Inv-loop μ-loop
-next-mover-requires-2 c κs = (c .before .before .before .pre .0, omega (arith, c .loop-test .taken, c .before .before .before .pre .1))
+next-mover-requires-2 c κs =
+    (c .before .before .before .pre .0, omega (arith, c .loop-test .taken, c .before .before .before .pre .1))
 
 loop-less : tie.Need-loop-less Inv-loop μ-loop
 loop-less c = omega (arith, c .before .loop-test .taken, c .next-mover2 .ensures .low)
 
 loop-again : tie.Need-loop-again Inv-loop μ-loop
-loop-again c = sweep-on _ _ _ _ (c .before .before .before .before .pre .0) (c .before .before .loop .inv) (c .before .loop-test .taken) (c .next-mover2 .ensures)
+loop-again c =
+    sweep-on _ _ _ _ (c .before .before .before .before .pre .0) (c .before .before .loop .inv)
+    (c .before .loop-test .taken) (c .next-mover2 .ensures)
 
 returns : tie.Need-returns Inv-loop μ-loop
-returns c = sweep-end _ _ _ _ (c .before .before .before .pre .0) (c .before .loop .inv) (omega (arith, c .loop-test .left))
+returns c =
+    sweep-end _ _ _ _ (c .before .before .before .pre .0) (c .before .loop .inv) (omega (arith, c .loop-test .left))
 
 pub holes-spec : {M : Type 1} → statement M
 holes-spec =

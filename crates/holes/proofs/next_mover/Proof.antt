@@ -17,7 +17,8 @@ from-u8-requires : tie.Need-from-u8-requires
 from-u8-requires c κs = search needs
 
 slot-relay-requires : tie.Need-slot-relay-requires
-slot-relay-requires c κs = omega (arith, c .from-u8 .ensures .0, c .before .before .pre .0 .slots _ (c .before .before .pre .1))
+slot-relay-requires c κs =
+    omega (arith, c .from-u8 .ensures .0, c .before .before .pre .0 .slots _ (c .before .before .pre .1))
 
 mul-if1 : tie.Need-mul-if1
 mul-if1 c = search needs
@@ -26,11 +27,22 @@ element-copy-out-if1 : tie.Need-element-copy-out-if1
 element-copy-out-if1 c = search needs
 
 next-passed-requires : tie.Need-next-passed-requires
-next-passed-requires c κs = (c .before .before .before .before .before .pre .0 .few, c .before .before .before .before .before .pre .1)
+next-passed-requires c κs =
+    let at-start = c .before .before .before .before .before in
+    (at-start .pre .0 .few, at-start .pre .1)
 
 returns : tie.Need-returns
 unfolding slotRoom
-returns c = next-at-once (c .before .before .before .before .before .pre .0) _ (c .before .before .before .before .before .pre .1) (omega (arith, c .if1 .taken, ap (λ (i : ℕ). getD (c .before .before .before .before .before .args .room .now) i 0) (c .before .before .slot-relay .ensures .0 ∙ ap (slotRelay (c .before .before .before .before .before .args .keys .now)) (c .before .before .before .from-u8 .ensures .0))))
+returns c =
+    let at-start = c .before .before .before .before .before in
+    next-at-once (at-start .pre .0) _ (at-start .pre .1)
+    (omega (
+      arith,
+      c .if1 .taken,
+      ap (λ (i : ℕ). getD (at-start .args .room .now) i 0)
+          (c .before .before .slot-relay .ensures .0 ∙ ap (slotRelay (at-start .args .keys .now))
+          (c .before .before .before .from-u8 .ensures .0)),
+    ))
 
 returns-2 : tie.Need-returns-2
 returns-2 c = search needs

@@ -33,21 +33,28 @@ had-passed-requires : tie.Need-had-passed-requires Inv-loop μ-loop
 had-passed-requires c κs = tt
 
 add-j-2 : tie.Need-add-j-2 Inv-loop μ-loop
-add-j-2 c = omega (arith, c .before .before .before .before .loop-test .taken, c .before .before .before .before .before .before .before .pre .0)
+add-j-2 c =
+    let at-start = c .before .before .before .before .before .before .before in
+    omega (arith, c .before .before .before .before .loop-test .taken, at-start .pre .0)
 
 loop-less : tie.Need-loop-less Inv-loop μ-loop
 loop-less c = omega (arith, c .before .before .before .before .loop-test .taken)
 
 loop-again : tie.Need-loop-again Inv-loop μ-loop
 unfolding passedAt
-loop-again c = seek-on _ _ _ _ (c .before .before .before .before .before .loop .inv) (c .before .before .before .before .loop-test .taken) (sym (c .before .had-passed .ensures) ∙ c .if1 .left)
+loop-again c =
+    let at-loop = c .before .before .before .before .before in
+    seek-on _ _ _ _ (at-loop .loop .inv) (c .before .before .before .before .loop-test .taken)
+    (sym (c .before .had-passed .ensures) ∙ c .if1 .left)
 
 returns : tie.Need-returns Inv-loop μ-loop
 returns c = seek-end _ _ _ _ (c .before .loop .inv) (omega (arith, c .loop-test .left))
 
 returns-2 : tie.Need-returns-2 Inv-loop μ-loop
 unfolding passedAt
-returns-2 c = seek-found _ _ _ _ (c .before .before .before .before .before .loop .inv) (sym (c .before .had-passed .ensures) ∙ c .if1 .taken)
+returns-2 c =
+    let at-loop = c .before .before .before .before .before in
+    seek-found _ _ _ _ (at-loop .loop .inv) (sym (c .before .had-passed .ensures) ∙ c .if1 .taken)
 
 pub next-passed-spec : {M : Type 1} → statement M
 next-passed-spec =

@@ -27,8 +27,10 @@ same-length-5 c = search needs
 
 returns : tie.Need-returns
 returns c =
-    let line = c .before .before .before .before .before .before .before .before in
-    takes-end (line .before .before .before .before .before .before .before .if1 .taken) (line .before .kept-part .ensures) (line .answer-line .ensures)
+    let after-before = c .before .before .before .before .before .before .before in
+    let line = after-before .before in
+    takes-end (line .before .before .before .before .before .before .before .if1 .taken)
+    (line .before .kept-part .ensures) (line .answer-line .ensures)
 
 put-byte-requires : tie.Need-put-byte-requires
 put-byte-requires c κs = search needs

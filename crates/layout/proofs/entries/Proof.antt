@@ -12,7 +12,8 @@ use Rattle.layout.proofs.entries.Statement.{statement}
 use Rattle.layout.proofs.entries.Tie as tie
 
 abbrev Inv-loop : tie.InvT-loop
-Inv-loop bytes at count table₀ i₀ table i = (i ≤ count) × ((length table ≡ length table₀) × (take (2 * i) table ≡ flat (block bytes at i)))
+Inv-loop bytes at count table₀ i₀ table i =
+    (i ≤ count) × ((length table ≡ length table₀) × (take (2 * i) table ≡ flat (block bytes at i)))
 
 abbrev μ-loop : tie.MeasureT-loop
 μ-loop bytes at count table₀ i₀ table i = count - i
@@ -70,13 +71,23 @@ loop-less : tie.Need-loop-less Inv-loop μ-loop
 loop-less c = omega arith
 
 loop-again : tie.Need-loop-again Inv-loop μ-loop
-loop-again c = (omega arith, (simp length-set (c .before .before .before .loop .inv .1 .0), entries-more _ _ (c .before .before .before .loop .table) (c .before .before .before .loop .i) (omega arith) (c .before .before .before .loop .inv .1 .1) (c .before .number-at .ensures) (c .number-at2 .ensures)))
+loop-again c = (
+  omega arith,
+  (
+    simp length-set (c .before .before .before .loop .inv .1 .0),
+    entries-more _ _
+        (c .before .before .before .loop .table) (c .before .before .before .loop .i) (omega arith)
+        (c .before .before .before .loop .inv .1 .1) (c .before .number-at .ensures) (c .number-at2 .ensures),
+  ),
+)
 
 same-length : tie.Need-same-length Inv-loop μ-loop
 same-length c = omega arith
 
 returns : tie.Need-returns Inv-loop μ-loop
-returns c = entries-all _ _ (c .before .loop .table) (c .before .loop .inv .0) (omega arith) (omega arith) (c .before .loop .inv .1 .1)
+returns c =
+    entries-all _ _ (c .before .loop .table) (c .before .loop .inv .0) (omega arith) (omega arith)
+    (c .before .loop .inv .1 .1)
 
 pub entries-spec : {M : Type 1} → statement M
 entries-spec =

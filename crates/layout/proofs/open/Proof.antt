@@ -38,7 +38,11 @@ shaped-requires : tie.Need-shaped-requires
 shaped-requires c κs = search needs
 
 returns-2 : tie.Need-returns-2
-returns-2 c = long-trailer _ (c .before .before .before .before .before .before .if1 .left) (c .before .before .before .before .before .field .ensures) (c .before .before .before .before .field2 .ensures) (c .before .before .before .field3 .ensures) (c .before .before .field4 .ensures) (c .before .field5 .ensures) (c .shaped .ensures)
+returns-2 c =
+    let after-field = c .before .before .before .before .before in
+    long-trailer _ (after-field .before .if1 .left) (after-field .field .ensures)
+    (c .before .before .before .before .field2 .ensures) (c .before .before .before .field3 .ensures)
+    (c .before .before .field4 .ensures) (c .before .field5 .ensures) (c .shaped .ensures)
 
 pub open-spec : {M : Type 1} → statement M
 open-spec =

@@ -24,13 +24,19 @@ cast-t7 c = search needs
 
 returns-3 : tie.Need-returns-3
 returns-3 c =
-    let w = c .before .before .before .before .before .before .args .word .now in
-    ap Is (c .before .value .ensures) ∙ sym (decimal-is w (omega (arith, c .before .before .before .before .if1 .left)) (sym (c .before .before .before .leading-zero .ensures) ∙ c .before .before .if2 .left) (omega (arith, c .if3 .taken, c .before .value .ensures)))
+    let at-start = c .before .before .before .before .before .before in
+    let w = at-start .args .word .now in
+    ap Is (c .before .value .ensures) ∙ sym (decimal-is w (omega (arith, c .before .before .before .before .if1 .left))
+    (sym (c .before .before .before .leading-zero .ensures) ∙ c .before .before .if2 .left)
+    (omega (arith, c .if3 .taken, c .before .value .ensures)))
 
 returns-4 : tie.Need-returns-4
 returns-4 c =
-    let w = c .before .before .before .before .before .before .args .word .now in
-    sym (decimal-not w (omega (arith, c .before .before .before .before .if1 .left)) (sym (c .before .before .before .leading-zero .ensures) ∙ c .before .before .if2 .left) (omega (arith, c .if3 .left, c .before .value .ensures)))
+    let at-start = c .before .before .before .before .before .before in
+    let w = at-start .args .word .now in
+    sym (decimal-not w (omega (arith, c .before .before .before .before .if1 .left))
+    (sym (c .before .before .before .leading-zero .ensures) ∙ c .before .before .if2 .left)
+    (omega (arith, c .if3 .left, c .before .value .ensures)))
 
 pub decimal-spec : {M : Type 1} → statement M
 decimal-spec =

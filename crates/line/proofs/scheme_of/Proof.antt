@@ -51,7 +51,8 @@ returns-3 c =
     let d = c .before in
     let e = d .before .before in
     let l = e .before .before .before .before .before .before .args .line .now in
-    c .known-or-other .ensures ∙ ap knownOr (d .decimal .ensures) ∙ sym (scheme-named l (e .before .same .ensures .0 (not-false _ (e .if2 .left))))
+    c .known-or-other .ensures ∙ ap knownOr (d .decimal .ensures)
+    ∙ sym (scheme-named l (e .before .same .ensures .0 (not-false _ (e .if2 .left))))
 
 pub scheme-of-spec : {M : Type 1} → statement M
 scheme-of-spec =

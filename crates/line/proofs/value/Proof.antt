@@ -33,12 +33,14 @@ loop-less c = search needs
 
 loop-again : tie.Need-loop-again Inv-loop μ-loop
 loop-again c =
+    let at-start = c .before .before .before .before .before in
     let l = c .before .before .before .loop in
-    let w = c .before .before .before .before .before .args .word .now in (
+    let w = at-start .args .word .now in (
       omega arith,
       (
         omega (arith, c .with-byte .ensures, byte-most (l .v) (getD w (l .i) 0)),
-        l .inv .1 .1 ∙ byte-next w (l .v) (l .i) (c .before .before .loop-test .taken) ∙ ap (λ x. withBytes x (drop (l .i + 1) w)) (sym (c .with-byte .ensures)),
+        l .inv .1 .1 ∙ byte-next w (l .v) (l .i) (c .before .before .loop-test .taken)
+            ∙ ap (λ x. withBytes x (drop (l .i + 1) w)) (sym (c .with-byte .ensures)),
       ),
     )
 

@@ -28,11 +28,13 @@ add-w c = search needs
 
 returns-2 : tie.Need-returns-2
 unfolding withByte
-returns-2 c = sym (rw (sym (c .before .before .digit .ensures) ∙ not-false _ (c .before .if1 .left), lt-ltb _ _ (c .if2 .taken)))
+returns-2 c =
+    sym (rw (sym (c .before .before .digit .ensures) ∙ not-false _ (c .before .if1 .left), lt-ltb _ _ (c .if2 .taken)))
 
 returns-3 : tie.Need-returns-3
 unfolding withByte
-returns-3 c = sym (rw (sym (c .before .before .digit .ensures) ∙ not-false _ (c .before .if1 .left), le-ltb _ _ (c .if2 .left)))
+returns-3 c =
+    sym (rw (sym (c .before .before .digit .ensures) ∙ not-false _ (c .before .if1 .left), le-ltb _ _ (c .if2 .left)))
 
 pub with-byte-spec : {M : Type 1} → statement M
 with-byte-spec =

@@ -30,7 +30,15 @@ returns-4 c = sym (rw (c .before .before .n .given .1, c .match2 .keys4))
 
 returns-5 : tie.Need-returns-5
 unfolding withOne
-returns-5 c = sym (rw (c .before .before .n .given .1, ne-eqb _ 114 (c .match2 .rest .0 .0 .0 .1), ne-eqb _ 101 (c .match2 .rest .0 .0 .1), ne-eqb _ 119 (c .match2 .rest .0 .1), ne-eqb _ 102 (c .match2 .rest .1)))
+returns-5 c =
+    sym (rw (
+      c .before .before .n .given .1,
+      ne-eqb _ 114 (c .match2 .rest .0 .0 .0 .1),
+      ne-eqb _ 101
+          (c .match2 .rest .0 .0 .1),
+      ne-eqb _ 119 (c .match2 .rest .0 .1),
+      ne-eqb _ 102 (c .match2 .rest .1),
+    ))
 
 returns-6 : tie.Need-returns-6
 unfolding withOne

@@ -31,7 +31,8 @@ unfolding letterOf
 returns c =
     let d = c .before .before in
     let a = d .before .before .before .before .args in
-    c .with-one .ensures ∙ rest-one (a .letter ∷ []) (a .rest .now) (d .before .before .find .ensures .0) (d .decimal .ensures) (c .before .if1 .taken)
+    c .with-one .ensures ∙ rest-one (a .letter ∷ []) (a .rest .now) (d .before .before .find .ensures .0)
+    (d .decimal .ensures) (c .before .if1 .taken)
 
 add-next : tie.Need-add-next
 add-next c = search needs
@@ -57,7 +58,9 @@ returns-2 c =
     let t = c .before in
     let d = t .before .before .before in
     let a = d .before .before .before .before .args in
-    c .with-two .ensures ∙ rest-two (a .letter ∷ []) (a .rest .now) (d .before .before .find .ensures .0) (d .decimal .ensures) (omega (arith, t .before .before .if1 .left, d .before .before .find .ensures .1)) (t .decimal2 .ensures)
+    c .with-two .ensures ∙ rest-two (a .letter ∷ []) (a .rest .now) (d .before .before .find .ensures .0)
+    (d .decimal .ensures) (omega (arith, t .before .before .if1 .left, d .before .before .find .ensures .1))
+    (t .decimal2 .ensures)
 
 pub with-rest-spec : {M : Type 1} → statement M
 with-rest-spec =

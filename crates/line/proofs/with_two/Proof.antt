@@ -20,15 +20,27 @@ enum-told-2 c = search needs
 
 returns : tie.Need-returns
 unfolding withTwo
-returns c = sym (rw (c .before .before .before .before .before .n .given .1, c .before .before .limit .given .1, c .match3 .keys1))
+returns c =
+    let after-n = c .before .before .before .before .before in
+    sym (rw (after-n .n .given .1, c .before .before .limit .given .1, c .match3 .keys1))
 
 returns-2 : tie.Need-returns-2
 unfolding withTwo
-returns-2 c = sym (rw (c .before .before .before .before .before .n .given .1, c .before .before .limit .given .1, c .match3 .keys2))
+returns-2 c =
+    let after-n = c .before .before .before .before .before in
+    sym (rw (after-n .n .given .1, c .before .before .limit .given .1, c .match3 .keys2))
 
 returns-3 : tie.Need-returns-3
 unfolding withTwo
-returns-3 c = sym (rw (c .before .before .before .before .before .n .given .1, c .before .before .limit .given .1, ne-eqb _ 97 (c .match3 .rest .0 .1), ne-eqb _ 115 (c .match3 .rest .1)))
+returns-3 c =
+    let after-n = c .before .before .before .before .before in
+    sym (rw (
+      after-n .n .given .1,
+      c .before .before .limit .given .1,
+      ne-eqb _ 97 (c .match3 .rest .0 .1),
+      ne-eqb _ 115
+          (c .match3 .rest .1),
+    ))
 
 returns-4 : tie.Need-returns-4
 unfolding withTwo

@@ -9,7 +9,10 @@ tablet-number-requires : tie.Need-tablet-number-requires
 tablet-number-requires c κs = search needs
 
 returns : tie.Need-returns
-returns c = there-at _ (c .before .before .before .before .before .pre .1) (c .before .before .before .before .before .pre .2) (c .before .before .tablet-number .ensures) (c .before .before .before .if1 .taken)
+returns c =
+    let at-start = c .before .before .before .before .before in
+    there-at _ (at-start .pre .1) (at-start .pre .2) (c .before .before .tablet-number .ensures)
+    (c .before .before .before .if1 .taken)
 
 returns-2 : tie.Need-returns-2
 returns-2 c = there-past _ (c .before .before .pre .1) (c .before .before .pre .2) (omega (arith, c .if1 .left))

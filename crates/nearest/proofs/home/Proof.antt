@@ -29,7 +29,8 @@ loop-less c = omega arith
 
 loop-again : tie.Need-loop-again Inv-loop μ-loop
 loop-again c =
-    let few = c .before .before .before .before .before .pre in
+    let at-start = c .before .before .before .before .before in
+    let few = at-start .pre in
     let scanned = c .before .before .before .loop .inv in
     let on = c .before .before .loop-test .taken in
     let far = c .before .away2 .ensures in

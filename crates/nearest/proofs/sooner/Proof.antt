@@ -13,7 +13,8 @@ away-requires-2 : tie.Need-away-requires-2
 away-requires-2 c κs = search needs
 
 returns : tie.Need-returns
-returns c = sym (sooner-tie _ _ _ _ (sym (c .before .before .away .ensures) ∙ c .if1 .taken ∙ c .before .away2 .ensures))
+returns c =
+    sym (sooner-tie _ _ _ _ (sym (c .before .before .away .ensures) ∙ c .if1 .taken ∙ c .before .away2 .ensures))
 
 returns-2 : tie.Need-returns-2
 returns-2 c = sooner-apart _ _ _ _ (c .before .before .away .ensures) (c .before .away2 .ensures) (c .if1 .left)

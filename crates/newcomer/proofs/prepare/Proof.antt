@@ -47,8 +47,10 @@ abbrev right : tie.After-newcomer-refusal → tie.Else1
 right c = c .before .before .before .before
 
 asked : (c : tie.After-newcomer-refusal) → let l = right c .before .before .look .result in
-    Asked (start (right c) .args .scheme) (start (right c) .args .relays .now) (start (right c) .args .tablets .now) (l .n) (l .m) (l .survey)
-    (start (right c) .args .t) (c .before .before .before .tablet-spot .result) (c .before .before .tablet-there .result)
+    Asked (start (right c) .args .scheme) (start (right c) .args .relays .now) (start (right c) .args .tablets .now)
+    (l .n) (l .m) (l .survey)
+    (start (right c) .args .t) (c .before .before .before .tablet-spot .result)
+    (c .before .before .tablet-there .result)
     (c .before .tablet-places .result)
 asked c = record {
   start = found (right c);
@@ -62,7 +64,8 @@ abbrev number : tie.Else2 → tie.After-newcomer-refusal
 number c = c .before .before
 
 free : (c : tie.Else2) → let a = number c in
-    isDone (newcomerRefusal (start (right a) .args .t .0) (a .before .before .tablet-there .result) (a .before .tablet-places .result)
+    isDone (newcomerRefusal (start (right a) .args .t .0) (a .before .before .tablet-there .result)
+    (a .before .tablet-places .result)
     (right a .before .before .look .result .m)) ≡ true
 free c = ap isDone (sym (number c .newcomer-refusal .ensures)) ∙ test-true _ (c .before .done2 .ensures) (c .if2 .left)
 
@@ -89,7 +92,8 @@ tablet-spot-requires : tie.Need-tablet-spot-requires
 tablet-spot-requires c κs = let r = start-rises (found c) in (r .tabletsFit, r .tablets)
 
 tablet-there-requires : tie.Need-tablet-there-requires
-tablet-there-requires c κs = let r = start-rises (found (c .before)) in (r .tabletsFit, r .tablets, c .tablet-spot .ensures)
+tablet-there-requires c κs =
+    let r = start-rises (found (c .before)) in (r .tabletsFit, r .tablets, c .tablet-spot .ensures)
 
 tablet-places-requires : tie.Need-tablet-places-requires
 tablet-places-requires c κs = search needs
@@ -119,7 +123,8 @@ returns-3 : tie.Need-returns-3
 returns-3 c =
     let k = c .before .before .before in
     let q = clear (k .before) in
-    λ ms e. shut-plan (asked (number q)) (free q) (k .seek .ensures) _ (c .no-enrolment3 .ensures) (not-true _ (c .before .if3 .taken))
+    λ ms e. shut-plan (asked (number q)) (free q) (k .seek .ensures) _ (c .no-enrolment3 .ensures)
+    (not-true _ (c .before .if3 .taken))
 
 turn-requires : tie.Need-turn-requires
 turn-requires c κs =
@@ -137,7 +142,8 @@ returns-4 c =
     let opens = turned t in
     let k = sought opens in
     let q = clear (k .before) in
-    λ ms e. short-plan (asked (number q)) (free q) (k .seek .ensures) (not-false _ (opens .if3 .left)) (t .turn .ensures)
+    λ ms e. short-plan (asked (number q)) (free q) (k .seek .ensures) (not-false _ (opens .if3 .left))
+    (t .turn .ensures)
     _ (c .no-enrolment4 .ensures) (omega (arith, e, c .before .if4 .taken))
 
 returns-5 : tie.Need-returns-5
@@ -146,7 +152,8 @@ returns-5 c =
     let opens = turned t in
     let k = sought opens in
     let q = clear (k .before) in
-    λ ms e. whole-plan (asked (number q)) (free q) (k .seek .ensures) (not-false _ (opens .if3 .left)) (t .turn .ensures)
+    λ ms e. whole-plan (asked (number q)) (free q) (k .seek .ensures) (not-false _ (opens .if3 .left))
+    (t .turn .ensures)
     _ refl refl refl refl (omega (arith, e, c .if4 .left))
 
 pub prepare-spec : {M : Type 1} → statement M

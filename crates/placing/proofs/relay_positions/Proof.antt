@@ -39,7 +39,11 @@ loop-less c = omega arith
 
 loop-again : tie.Need-loop-again Inv-loop μ-loop
 unfolding relayPositions
-loop-again c = (omega arith, array-more (λ k. positions _ .relayAt (relayNumber _ k)) (c .before .before .before .loop .inv .1) (c .relay-at .ensures ∙ ap (positions _ .relayAt) (c .before .relay-number .ensures)))
+loop-again c = (
+  omega arith,
+  array-more (λ k. positions _ .relayAt (relayNumber _ k)) (c .before .before .before .loop .inv .1)
+      (c .relay-at .ensures ∙ ap (positions _ .relayAt) (c .before .relay-number .ensures)),
+)
 
 returns : tie.Need-returns Inv-loop μ-loop
 returns c = at-end (relayPositions _ _) (c .before .loop .inv .0) (c .loop-test .left) (c .before .loop .inv .1)

@@ -20,22 +20,44 @@ unfolding changesTo changes
 loop-holds c = (omega arith, refl)
 
 one-if-moves-requires : tie.Need-one-if-moves-requires Inv-loop μ-loop
-one-if-moves-requires c κs = (omega (arith, c .loop-test .taken, c .before .before .before .before .pre .tablets .few), omega (arith, c .loop-test .taken, c .before .before .before .before .pre .tablets .there), c .before .before .before .before .pre .relays _ (c .loop-test .taken))
+one-if-moves-requires c κs = (
+  omega (arith, c .loop-test .taken, c .before .before .before .before .pre .tablets .few),
+  omega
+      (arith, c .loop-test .taken, c .before .before .before .before .pre .tablets .there),
+  c .before .before .before .before .pre .relays _ (c .loop-test .taken),
+)
 
 add-c : tie.Need-add-c Inv-loop μ-loop
-add-c c = omega (arith, count-more _ _ _ _ (c .before .before .loop .inv .1) (c .one-if-moves .ensures) .1, c .before .loop-test .taken, c .before .before .before .before .before .pre .tablets .few)
+add-c c =
+    let at-start = c .before .before .before .before .before in
+    omega (
+      arith,
+      count-more _ _ _ _ (c .before .before .loop .inv .1)
+          (c .one-if-moves .ensures) .1,
+      c .before .loop-test .taken,
+      at-start .pre .tablets .few,
+    )
 
 add-j : tie.Need-add-j Inv-loop μ-loop
-add-j c = omega (arith, c .before .loop-test .taken, c .before .before .before .before .before .pre .tablets .few)
+add-j c =
+    let at-start = c .before .before .before .before .before in
+    omega (arith, c .before .loop-test .taken, at-start .pre .tablets .few)
 
 loop-less : tie.Need-loop-less Inv-loop μ-loop
 loop-less c = omega (arith, c .before .loop-test .taken)
 
 loop-again : tie.Need-loop-again Inv-loop μ-loop
-loop-again c = (omega (arith, c .before .loop-test .taken), count-more _ _ _ _ (c .before .before .loop .inv .1) (c .one-if-moves .ensures) .0)
+loop-again c = (
+  omega (arith, c .before .loop-test .taken),
+  count-more _ _ _ _ (c .before .before .loop .inv .1)
+      (c .one-if-moves .ensures) .0,
+)
 
 returns : tie.Need-returns Inv-loop μ-loop
-returns c = at-end (λ j. length (changesTo (c .before .before .before .before .args .relays .now) (c .before .before .before .before .args .relay .now) (c .before .before .before .before .args .tablets .now) j)) (c .before .loop .inv .0) (c .loop-test .left) (c .before .loop .inv .1)
+returns c =
+    at-end (λ j. length (changesTo (c .before .before .before .before .args .relays .now)
+    (c .before .before .before .before .args .relay .now) (c .before .before .before .before .args .tablets .now) j))
+    (c .before .loop .inv .0) (c .loop-test .left) (c .before .loop .inv .1)
 
 pub count-moves-spec : {M : Type 1} → statement M
 count-moves-spec =

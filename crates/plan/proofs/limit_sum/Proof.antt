@@ -29,7 +29,16 @@ from-u32-requires : tie.Need-from-u32-requires Inv-loop μ-loop
 from-u32-requires c κs = tt
 
 add-sum : tie.Need-add-sum Inv-loop μ-loop
-add-sum c = omega (arith, c .from-u32 .ensures .0, c .before .relay-limit .ensures, c .before .before .before .before .before .pre .limits _ (c .before .before .loop-test .taken), c .before .before .before .before .before .pre .relays .few)
+add-sum c =
+    let at-start = c .before .before .before .before .before in
+    omega (
+      arith,
+      c .from-u32 .ensures .0,
+      c .before .relay-limit .ensures,
+      at-start .pre .limits _
+          (c .before .before .loop-test .taken),
+      at-start .pre .relays .few,
+    )
 
 add-i : tie.Need-add-i Inv-loop μ-loop
 add-i c = omega (arith, c .before .before .loop-test .taken)
@@ -38,10 +47,30 @@ loop-less : tie.Need-loop-less Inv-loop μ-loop
 loop-less c = omega (arith, c .before .before .loop-test .taken)
 
 loop-again : tie.Need-loop-again Inv-loop μ-loop
-loop-again c = (omega (arith, c .before .before .loop-test .taken), omega (arith, c .from-u32 .ensures .0, c .before .relay-limit .ensures, total-more (relayNumber (c .before .before .before .before .before .args .relays .now)) (relayLimit (c .before .before .before .before .before .args .relays .now)) (c .before .before .before .loop .i)), omega (arith, c .from-u32 .ensures .0, c .before .relay-limit .ensures, c .before .before .before .before .before .pre .limits _ (c .before .before .loop-test .taken)))
+loop-again c =
+    let at-start = c .before .before .before .before .before in (
+      omega (arith, c .before .before .loop-test .taken),
+      omega (
+        arith,
+        c .from-u32 .ensures .0,
+        c .before .relay-limit .ensures,
+        total-more
+            (relayNumber (at-start .args .relays .now)) (relayLimit (at-start .args .relays .now))
+            (c .before .before .before .loop .i),
+      ),
+      omega (
+        arith,
+        c .from-u32 .ensures .0,
+        c .before .relay-limit .ensures,
+        at-start .pre .limits _
+            (c .before .before .loop-test .taken),
+      ),
+    )
 
 returns : tie.Need-returns Inv-loop μ-loop
-returns c = at-end (λ i. total (relaysIn (c .before .before .before .args .relays .now) i)) (c .before .loop .inv .0) (c .loop-test .left) (c .before .loop .inv .1)
+returns c =
+    at-end (λ i. total (relaysIn (c .before .before .before .args .relays .now) i)) (c .before .loop .inv .0)
+    (c .loop-test .left) (c .before .loop .inv .1)
 
 pub limit-sum-spec : {M : Type 1} → statement M
 limit-sum-spec =

@@ -6,7 +6,10 @@ use Rattle.plan.proofs.moves_fit.Statement.{statement}
 use Rattle.plan.proofs.moves_fit.Tie as tie
 
 returns : tie.Need-returns
-returns c = count-fits (c .before .before .before .args .relays .now) (c .before .before .before .args .relay .now) (c .before .before .before .args .tablets .now) (c .before .before .before .args .m) (c .before .before .before .args .places) (c .if1 .taken)
+returns c =
+    count-fits (c .before .before .before .args .relays .now) (c .before .before .before .args .relay .now)
+    (c .before .before .before .args .tablets .now) (c .before .before .before .args .m)
+    (c .before .before .before .args .places) (c .if1 .taken)
 
 count-moves-requires : tie.Need-count-moves-requires
 count-moves-requires c κs = c .before .before .before .pre

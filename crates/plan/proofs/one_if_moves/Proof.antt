@@ -18,15 +18,25 @@ relay-number-requires : tie.Need-relay-number-requires
 relay-number-requires c κs = omega (arith, c .from-u8 .ensures .0, c .before .before .before .before .pre .2)
 
 tablet-relay-requires : tie.Need-tablet-relay-requires
-tablet-relay-requires c κs = c .before .before .before .before .before .pre .1
+tablet-relay-requires c κs =
+    let at-start = c .before .before .before .before .before in
+    at-start .pre .1
 
 returns : tie.Need-returns
 unfolding newRelay
-returns c = picks-same _ _ (c .before .before .before .tablet-relay .ensures) (c .before .before .before .before .relay-number .ensures ∙ ap (relayNumber _) (c .before .before .before .before .before .from-u8 .ensures .0)) (c .if1 .taken)
+returns c =
+    let after-from-u8 = c .before .before .before .before .before in
+    picks-same _ _ (c .before .before .before .tablet-relay .ensures)
+    (c .before .before .before .before .relay-number .ensures ∙ ap (relayNumber _) (after-from-u8 .from-u8 .ensures .0))
+    (c .if1 .taken)
 
 returns-2 : tie.Need-returns-2
 unfolding newRelay
-returns-2 c = picks-other _ _ (c .before .before .before .tablet-relay .ensures) (c .before .before .before .before .relay-number .ensures ∙ ap (relayNumber _) (c .before .before .before .before .before .from-u8 .ensures .0)) (c .if1 .left)
+returns-2 c =
+    let after-from-u8 = c .before .before .before .before .before in
+    picks-other _ _ (c .before .before .before .tablet-relay .ensures)
+    (c .before .before .before .before .relay-number .ensures ∙ ap (relayNumber _) (after-from-u8 .from-u8 .ensures .0))
+    (c .if1 .left)
 
 pub one-if-moves-spec : {M : Type 1} → statement M
 one-if-moves-spec =

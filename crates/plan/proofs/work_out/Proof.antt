@@ -14,7 +14,9 @@ no-plan-requires : tie.Need-no-plan-requires
 no-plan-requires c κs = search needs
 
 returns : tie.Need-returns
-returns c = λ p o. limits-planned _ _ _ _ _ _ _ (c .no-plan .ensures) (omega (arith, c .before .before .limit-sum .ensures, c .before .if1 .taken))
+returns c =
+    λ p o. limits-planned _ _ _ _ _ _ _ (c .no-plan .ensures)
+    (omega (arith, c .before .before .limit-sum .ensures, c .before .if1 .taken))
 
 refill-requires : tie.Need-refill-requires
 refill-requires c κs =
@@ -30,19 +32,36 @@ refill-requires c κs =
 
 moves-fit-requires : tie.Need-moves-fit-requires
 moves-fit-requires c κs =
+    let at-start = c .before .before .before .before .before .before in
     record {
-      tablets = c .before .before .before .before .before .before .pre .tablets;
-      relays = λ j h. omega (arith, c .before .refill .ensures (c .before .before .before .before .before .before .pre .positions) (now (c .before .before .before .before .before .before .args .tablets)) (c .before .before .before .before .before .before .pre .homes) .below j h, c .before .before .before .before .before .before .pre .limited .relays .there);
+      tablets = at-start .pre .tablets;
+      relays = λ j h. omega (
+        arith,
+        c .before .refill .ensures (at-start .pre .positions)
+            (now (at-start .args .tablets)) (at-start .pre .homes) .below j h,
+        at-start .pre .limited .relays .there,
+      );
     }
 
 returns-2 : tie.Need-returns-2
-returns-2 c = λ p o. planned _ _ _ _ _ _ _ (omega (arith, c .before .before .before .before .before .limit-sum .ensures, c .before .before .before .before .if1 .left)) (c .before .before .before .refill .ensures p _ o) (c .before .moves-fit .ensures) refl refl (c .if2 .taken)
+returns-2 c =
+    let after-limit-sum = c .before .before .before .before .before in
+    λ p o. planned _ _ _ _ _ _ _ (omega (
+      arith,
+      after-limit-sum .limit-sum .ensures,
+      c .before .before .before .before .if1 .left,
+    )) (c .before .before .before .refill .ensures p _ o)
+    (c .before .moves-fit .ensures) refl refl (c .if2 .taken)
 
 no-plan-requires-2 : tie.Need-no-plan-requires-2
 no-plan-requires-2 c κs = search needs
 
 returns-3 : tie.Need-returns-3
-returns-3 c = λ p o. list-planned _ _ _ _ _ _ _ (omega (arith, c .before .before .before .before .before .before .limit-sum .ensures, c .before .before .before .before .before .if1 .left)) (c .before .before .before .before .refill .ensures p _ o) (c .before .before .moves-fit .ensures) (c .no-plan2 .ensures) (c .before .if2 .left)
+returns-3 c =
+    let at-if1 = c .before .before .before .before .before in
+    λ p o. list-planned _ _ _ _ _ _ _ (omega (arith, at-if1 .before .limit-sum .ensures, at-if1 .if1 .left))
+    (c .before .before .before .before .refill .ensures p _ o) (c .before .before .moves-fit .ensures)
+    (c .no-plan2 .ensures) (c .before .if2 .left)
 
 pub work-out-spec : {M : Type 1} → statement M
 work-out-spec =

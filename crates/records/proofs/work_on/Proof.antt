@@ -44,12 +44,17 @@ same-length-3 : tie.Need-same-length-3
 same-length-3 c = search needs
 
 abbrev start : tie.After-none2 → tie.Start
-start c = c .before .before .before .before .before .before .before .before .before .before .before .before .before .before .before .before
+start c =
+    let after-before = c .before .before .before .before .before .before .before .before .before .before .before .before .before .before .before in
+    after-before .before
 
 returns : tie.Need-returns
 returns c =
-    works _ _ _ _ _ _ _ (kept-answers _ _ _ _ _ _ (c .before .before .before .before .before .before .before .call .ensures))
-    (scratch-length (now (start c .args .numbers)) (c .before .before .before .before .before .before .before .before .before .before .before .before .useful .result) (start c .args .room) (start c .pre) (c .before .before .before .before .before .before .before .before .before .before .before .before .useful .ensures))
+    let after-call = c .before .before .before .before .before .before .before in
+    let after-useful = after-call .before .before .before .before .before in
+    works _ _ _ _ _ _ _ (kept-answers _ _ _ _ _ _ (after-call .call .ensures))
+    (scratch-length (now (start c .args .numbers)) (after-useful .useful .result) (start c .args .room) (start c .pre)
+    (after-useful .useful .ensures))
     refl
 
 pub work-on-spec : {M : Type 1} → statement M

@@ -12,7 +12,8 @@ use Rattle.refill.proofs.refill.Statement.{statement}
 use Rattle.refill.proofs.refill.Tie as tie
 
 abbrev Inv-loop : tie.InvT-loop
-Inv-loop relays keys home n m room₀ next₀ relay₀ j₀ room next relay j = (j ≤ m) × Fills relays n m j keys home room next relay
+Inv-loop relays keys home n m room₀ next₀ relay₀ j₀ room next relay j =
+    (j ≤ m) × Fills relays n m j keys home room next relay
 
 abbrev μ-loop : tie.MeasureT-loop
 μ-loop relays keys home n m room₀ next₀ relay₀ j₀ room next relay j = m - j
@@ -25,7 +26,8 @@ abbrev head : tie.After-led-to Inv-loop μ-loop → tie.In-loop Inv-loop μ-loop
 head c = c .before .before .before .before
 
 -- where tablet j's walk goes from, and where the row leads from there
-turn : (c : tie.After-led-to Inv-loop μ-loop) (p : Positions) (ts : List ℕ) → let a = start (head c .before) .args in let l = head c .before .loop in
+turn : (c : tie.After-led-to Inv-loop μ-loop) (p : Positions) (ts : List ℕ)
+    → let a = start (head c .before) .args in let l = head c .before .loop in
     Homes p (now (a .relays)) ts (a .n) (a .m) (now (a .keys)) (now (a .home))
     → Turn p (now (a .relays)) ts (a .n) (a .m) (l .j) (now (a .keys)) (now (a .home)) (l .room) (l .next) (l .relay)
     (c .before .before .from-u8 .result) (c .led-to .result)
@@ -41,8 +43,10 @@ turn c p ts o =
     }
 
 -- for the positions that were asked for
-turn-asked : (c : tie.After-led-to Inv-loop μ-loop) → let s = start (head c .before) in let a = s .args in let l = head c .before .loop in
-    Turn (s .pre .positions) (now (a .relays)) (s .pre .tablets) (a .n) (a .m) (l .j) (now (a .keys)) (now (a .home)) (l .room) (l .next) (l .relay)
+turn-asked : (c : tie.After-led-to Inv-loop μ-loop)
+    → let s = start (head c .before) in let a = s .args in let l = head c .before .loop in
+    Turn (s .pre .positions) (now (a .relays)) (s .pre .tablets) (a .n) (a .m) (l .j) (now (a .keys)) (now (a .home))
+    (l .room) (l .next) (l .relay)
     (c .before .before .from-u8 .result) (c .led-to .result)
 turn-asked c = let asked = start (head c .before) .pre in turn c (asked .positions) (asked .tablets) (asked .homes)
 
@@ -53,7 +57,13 @@ first-row-requires : tie.Need-first-row-requires Inv-loop μ-loop
 first-row-requires c κs = c .before .before .before .pre .relays .few
 
 loop-holds : tie.Need-loop-holds Inv-loop μ-loop
-loop-holds c = (omega arith, record { by = λ p ts o. filling-none o (c .before .before .relay-limits .ensures) (c .first-row .ensures) refl })
+loop-holds c = (
+  omega arith,
+  record {
+    by = λ p ts o. filling-none o (c .before .before .relay-limits .ensures)
+        (c .first-row .ensures) refl;
+  },
+)
 
 element-copy-out-from-u8 : tie.Need-element-copy-out-from-u8 Inv-loop μ-loop
 element-copy-out-from-u8 c = omega (arith, c .loop-test .taken, start (c .before) .pre .few)
@@ -87,7 +97,10 @@ loop-again c =
     let led = c .before .before .before .before in
     let e = c .take .ensures in (
       omega (arith, head led .loop-test .taken),
-      record { by = λ p ts o. filling-more (turn led p ts o) (c .before .before .before .slot-relay .ensures .0) (e .0) (e .1) },
+      record {
+        by = λ p ts o. filling-more (turn led p ts o) (c .before .before .before .slot-relay .ensures .0) (e .0)
+            (e .1);
+      },
     )
 
 returns : tie.Need-returns Inv-loop μ-loop

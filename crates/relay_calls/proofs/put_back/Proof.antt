@@ -22,7 +22,8 @@ element-copy-out-relays : tie.Need-element-copy-out-relays Inv-loop μ-loop
 element-copy-out-relays c = omega (arith, c .loop-test .taken, c .before .loop .inv .size, c .before .before .pre)
 
 mul-relays-2 : tie.Need-mul-relays-2 Inv-loop μ-loop
-mul-relays-2 c = omega (arith, c .before .loop-test .taken, c .before .before .loop .inv .size, c .before .before .before .pre)
+mul-relays-2 c =
+    omega (arith, c .before .loop-test .taken, c .before .before .loop .inv .size, c .before .before .before .pre)
 
 slice-write-relays : tie.Need-slice-write-relays Inv-loop μ-loop
 slice-write-relays c = c .before .loop-test .taken
@@ -31,7 +32,13 @@ add-i : tie.Need-add-i Inv-loop μ-loop
 add-i c = omega (arith, c .before .loop-test .taken, c .before .before .loop .inv .size, c .before .before .before .pre)
 
 loop-less : tie.Need-loop-less Inv-loop μ-loop
-loop-less c = omega (arith, c .before .loop-test .taken, length-set (c .before .before .loop .relays) (c .before .before .loop .i) (getD (c .before .before .before .args .own .now) (c .before .before .loop .i) 0))
+loop-less c =
+    omega (
+      arith,
+      c .before .loop-test .taken,
+      length-set (c .before .before .loop .relays) (c .before .before .loop .i)
+          (getD (c .before .before .before .args .own .now) (c .before .before .loop .i) 0),
+    )
 
 loop-again : tie.Need-loop-again Inv-loop μ-loop
 loop-again c = replacing-more (c .before .before .loop .inv) (c .before .loop-test .taken)

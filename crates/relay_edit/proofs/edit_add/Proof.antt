@@ -40,7 +40,8 @@ returns : tie.Need-returns
 returns c =
     let asked = c .before .before .before in
     let a = start asked .args in
-    found-refused (asked .find-relay .ensures) (c .before .before .done .ensures) (c .before .if1 .taken) (add-about (a .r) (a .limit))
+    found-refused (asked .find-relay .ensures) (c .before .before .done .ensures) (c .before .if1 .taken)
+    (add-about (a .r) (a .limit))
     (c .no-edit .ensures)
 
 relay-places-requires : tie.Need-relay-places-requires
@@ -74,7 +75,8 @@ insert-relay-requires c κs =
     let own = c .before in
     let q = own .before .before in
     let a = call q .args in
-    add-fits (a .r) (stands (right q)) (q .done2 .ensures) (a .limit) (q .before .before .relay-places .ensures) (q .before .add-refusal .ensures .0)
+    add-fits (a .r) (stands (right q)) (q .done2 .ensures) (a .limit) (q .before .before .relay-places .ensures)
+    (q .before .add-refusal .ensures .0)
     (own .before .if2 .left) (own .copied .ensures)
 
 relay-at-requires : tie.Need-relay-at-requires
@@ -85,7 +87,8 @@ put-in-requires c κs =
     let own = copy c in
     let q = own .before .before in
     let a = call q .args in
-    add-asks (a .r) (stands (right q)) (q .done2 .ensures) (a .limit) (q .before .before .relay-places .ensures) (q .before .add-refusal .ensures .0)
+    add-asks (a .r) (stands (right q)) (q .done2 .ensures) (a .limit) (q .before .before .relay-places .ensures)
+    (q .before .add-refusal .ensures .0)
     (own .before .if2 .left) (own .copied .ensures)
 
 add-more : tie.Need-add-more
@@ -100,7 +103,8 @@ returns-3 c =
     (q .before .add-refusal .ensures .0)
     (own .before .if2 .left) (own .copied .ensures)
     (add-about (a .r) (a .limit)) (q .before .add-refusal .ensures .1) refl refl refl
-    (c .before .before .before .before .insert-relay .ensures) (c .before .relay-at .ensures) (omega (arith, c .before .relay-at .ok))
+    (c .before .before .before .before .insert-relay .ensures) (c .before .relay-at .ensures)
+    (omega (arith, c .before .relay-at .ok))
     (c .put-in .ensures)
 
 pub edit-add-spec : {M : Type 1} → statement M

@@ -37,7 +37,8 @@ returns : tie.Need-returns
 returns c =
     let asked = c .before .before .before in
     let a = start asked .args in
-    found-refused (asked .find-relay .ensures) (c .before .before .done .ensures) (c .before .if1 .taken) (remove-about (a .r)) (c .no-edit .ensures)
+    found-refused (asked .find-relay .ensures) (c .before .before .done .ensures) (c .before .if1 .taken)
+    (remove-about (a .r)) (c .no-edit .ensures)
 
 missing-requires : tie.Need-missing-requires
 missing-requires c κs = search needs
@@ -52,7 +53,8 @@ returns-2 : tie.Need-returns-2
 returns-2 c =
     let q = c .before .before in
     let r = call q .args .r in
-    remove-refused r (stands (right q)) (q .done2 .ensures) (q .before .missing .ensures) (remove-about r) (c .before .if2 .taken)
+    remove-refused r (stands (right q)) (q .done2 .ensures) (q .before .missing .ensures) (remove-about r)
+    (c .before .if2 .taken)
     (c .no-edit2 .ensures)
 
 copied-requires : tie.Need-copied-requires
@@ -65,14 +67,16 @@ delete-relay-requires : tie.Need-delete-relay-requires
 delete-relay-requires c κs =
     let own = c .before in
     let q = own .before .before in
-    remove-fits (call q .args .r) (stands (right q)) (q .done2 .ensures) (q .before .missing .ensures) (own .before .if2 .left) (own .copied .ensures)
+    remove-fits (call q .args .r) (stands (right q)) (q .done2 .ensures) (q .before .missing .ensures)
+    (own .before .if2 .left) (own .copied .ensures)
 
 sub-less : tie.Need-sub-less
 sub-less c =
     let own = c .before .before .before in
     let q = own .before .before in
     let p =
-    remove-fits (call q .args .r) (stands (right q)) (q .done2 .ensures) (q .before .missing .ensures) (own .before .if2 .left)
+    remove-fits (call q .args .r) (stands (right q)) (q .done2 .ensures) (q .before .missing .ensures)
+    (own .before .if2 .left)
     (own .copied .ensures) in
     omega (arith, p .0)
 
@@ -81,14 +85,16 @@ take-out-requires c κs =
     let own = c .before .before .before .before in
     let q = own .before .before in
     let s = stands (right q) in
-    take-asks s (remove-fits (call q .args .r) s (q .done2 .ensures) (q .before .missing .ensures) (own .before .if2 .left) (own .copied .ensures) .0)
+    take-asks s (remove-fits (call q .args .r) s (q .done2 .ensures) (q .before .missing .ensures)
+    (own .before .if2 .left) (own .copied .ensures) .0)
 
 returns-3 : tie.Need-returns-3
 returns-3 c =
     let deleted = c .before .before .before in
     let own = deleted .before .before in
     let q = own .before .before in
-    remove-passed (call q .args .r) (stands (right q)) (q .done2 .ensures) (q .before .missing .ensures) (own .before .if2 .left)
+    remove-passed (call q .args .r) (stands (right q)) (q .done2 .ensures) (q .before .missing .ensures)
+    (own .before .if2 .left)
     (own .copied .ensures)
     (remove-about (call q .args .r)) refl refl refl (deleted .delete-relay .ensures) (c .take-out .ensures)
 

@@ -35,7 +35,8 @@ returns : tie.Need-returns
 returns c =
     let asked = c .before .before .before in
     let a = start asked .args in
-    found-refused (asked .find-relay .ensures) (c .before .before .done .ensures) (c .before .if1 .taken) (set-about (a .r) (a .limit))
+    found-refused (asked .find-relay .ensures) (c .before .before .done .ensures) (c .before .if1 .taken)
+    (set-about (a .r) (a .limit))
     (c .no-edit .ensures)
 
 set-refusal-requires : tie.Need-set-refusal-requires
@@ -51,7 +52,8 @@ returns-2 : tie.Need-returns-2
 returns-2 c =
     let q = c .before .before in
     let a = call q .args in
-    set-refused (a .r) (stands (right q)) (q .done2 .ensures) (a .limit) (q .before .set-refusal .ensures) (set-about (a .r) (a .limit))
+    set-refused (a .r) (stands (right q)) (q .done2 .ensures) (a .limit) (q .before .set-refusal .ensures)
+    (set-about (a .r) (a .limit))
     (c .before .if2 .taken) (c .no-edit2 .ensures)
 
 copied-requires : tie.Need-copied-requires
@@ -65,7 +67,8 @@ limit-relay-requires c κs =
     let own = c .before in
     let q = own .before .before in
     let a = call q .args in
-    set-fits (a .r) (stands (right q)) (q .done2 .ensures) (a .limit) (q .before .set-refusal .ensures) (own .before .if2 .left)
+    set-fits (a .r) (stands (right q)) (q .done2 .ensures) (a .limit) (q .before .set-refusal .ensures)
+    (own .before .if2 .left)
     (own .copied .ensures)
 
 returns-3 : tie.Need-returns-3
@@ -73,7 +76,8 @@ returns-3 c =
     let own = c .before .before .before .before in
     let q = own .before .before in
     let a = call q .args in
-    set-passed (a .r) (stands (right q)) (q .done2 .ensures) (a .limit) (q .before .set-refusal .ensures) (own .before .if2 .left)
+    set-passed (a .r) (stands (right q)) (q .done2 .ensures) (a .limit) (q .before .set-refusal .ensures)
+    (own .before .if2 .left)
     (own .copied .ensures)
     (set-about (a .r) (a .limit)) refl refl refl (c .before .before .limit-relay .ensures) refl
 

@@ -11,7 +11,8 @@ use borrow.Author.Needs.{needs}
 use Rattle.ring.proofs.hash.Statement.{statement}
 use Rattle.ring.proofs.hash.Tie as tie
 
-one-more : (bytes : List ℕ) (i h g : ℕ) → i < length bytes → g ≡ mixed h (getD bytes i 0) → mixedAll h (drop i bytes) ≡ mixedAll g (drop (i + 1) bytes)
+one-more : (bytes : List ℕ) (i h g : ℕ) → i < length bytes → g ≡ mixed h (getD bytes i 0) → mixedAll h (drop i bytes)
+    ≡ mixedAll g (drop (i + 1) bytes)
 unfolding mixedAll
 one-more bytes i h g l e = rw (e, add-one, drop-cons bytes i 0)
 
@@ -39,12 +40,18 @@ loop-less c = search needs
 
 loop-again : tie.Need-loop-again Inv-loop μ-loop
 loop-again c =
-    let l = c .before .before .before .loop in
-    (search needs, l .inv .1 ∙ one-more (c .before .before .before .before .before .args .bytes .now) (l .i) (l .h) (c .mix .result) (c .before .before .loop-test .taken) (c .mix .ensures))
+    let at-start = c .before .before .before .before .before in
+    let l = c .before .before .before .loop in (
+      search needs,
+      l .inv .1 ∙ one-more (at-start .args .bytes .now) (l .i) (l .h) (c .mix .result)
+          (c .before .before .loop-test .taken) (c .mix .ensures),
+    )
 
 returns : tie.Need-returns Inv-loop μ-loop
 unfolding mixedAll
-returns c = sym (c .before .loop .inv .1 ∙ ap (mixedAll (c .before .loop .h)) (drop-of-length-le (c .before .before .before .args .bytes .now) (c .loop-test .left)))
+returns c =
+    sym (c .before .loop .inv .1 ∙ ap (mixedAll (c .before .loop .h))
+    (drop-of-length-le (c .before .before .before .args .bytes .now) (c .loop-test .left)))
 
 pub hash-spec : {M : Type 1} → statement M
 hash-spec =

@@ -34,7 +34,14 @@ mix-requires-5 c κs = search needs
 
 returns : tie.Need-returns
 unfolding fnv mixedAll fourBytes
-returns c = rw (c .mix5 .ensures, c .before .mix4 .ensures, c .before .before .mix3 .ensures, c .before .before .before .mix2 .ensures, c .before .before .before .before .mix .ensures)
+returns c =
+    rw (
+      c .mix5 .ensures,
+      c .before .mix4 .ensures,
+      c .before .before .mix3 .ensures,
+      c .before .before .before .mix2 .ensures,
+      c .before .before .before .before .mix .ensures,
+    )
 
 pub hash-number-spec : {M : Type 1} → statement M
 hash-number-spec =

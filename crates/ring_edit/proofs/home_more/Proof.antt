@@ -16,10 +16,12 @@ comes-first-requires : tie.Need-comes-first-requires
 comes-first-requires c κs = search needs
 
 returns : tie.Need-returns
-returns c = sym (more-here _ _ _ _ _ _ (c .before .before .if1 .taken) (sym (c .before .comes-first .ensures) ∙ c .if2 .taken))
+returns c =
+    sym (more-here _ _ _ _ _ _ (c .before .before .if1 .taken) (sym (c .before .comes-first .ensures) ∙ c .if2 .taken))
 
 returns-2 : tie.Need-returns-2
-returns-2 c = sym (more-here _ _ _ _ _ _ (c .before .before .if1 .taken) (sym (c .before .comes-first .ensures) ∙ c .if2 .left))
+returns-2 c =
+    sym (more-here _ _ _ _ _ _ (c .before .before .if1 .taken) (sym (c .before .comes-first .ensures) ∙ c .if2 .left))
 
 returns-3 : tie.Need-returns-3
 returns-3 c = sym (more-behind _ _ _ _ _ (c .if3 .taken))

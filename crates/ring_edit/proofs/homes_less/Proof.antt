@@ -31,7 +31,8 @@ loop-less : tie.Need-loop-less Inv-loop μ-loop
 loop-less c = omega arith
 
 loop-again : tie.Need-loop-again Inv-loop μ-loop
-loop-again c = (omega arith, moved-more _ (c .before .before .before .loop .inv .1) (omega arith) (c .home-less .ensures))
+loop-again c =
+    (omega arith, moved-more _ (c .before .before .before .loop .inv .1) (omega arith) (c .home-less .ensures))
 
 returns : tie.Need-returns Inv-loop μ-loop
 returns c = moved-end _ (c .loop-test .left) (c .before .loop .inv .0) (c .before .loop .inv .1)

@@ -8,7 +8,8 @@ use Rattle.ring_edit.proofs.homes_more.Statement.{statement}
 use Rattle.ring_edit.proofs.homes_more.Tie as tie
 
 abbrev Inv-loop : tie.InvT-loop
-Inv-loop scheme tablets home₀ m keys s k j₀ home j = (j ≤ m) × HomesMoved (moreAt (positions scheme) tablets keys s k) j home₀ home
+Inv-loop scheme tablets home₀ m keys s k j₀ home j =
+    (j ≤ m) × HomesMoved (moreAt (positions scheme) tablets keys s k) j home₀ home
 
 abbrev μ-loop : tie.MeasureT-loop
 μ-loop scheme tablets home₀ m keys s k j₀ home j = m - j
@@ -23,20 +24,25 @@ home-more-requires : tie.Need-home-more-requires Inv-loop μ-loop
 home-more-requires c κs = omega (arith, c .before .before .before .before .pre .0 .there)
 
 element-write-home : tie.Need-element-write-home Inv-loop μ-loop
-element-write-home c = omega (arith, c .before .before .before .before .before .pre .0 .few)
+element-write-home c =
+    let at-start = c .before .before .before .before .before in
+    omega (arith, at-start .pre .0 .few)
 
 add-j : tie.Need-add-j Inv-loop μ-loop
-add-j c = omega (arith, c .before .before .before .before .before .pre .0 .few)
+add-j c =
+    let at-start = c .before .before .before .before .before in
+    omega (arith, at-start .pre .0 .few)
 
 loop-less : tie.Need-loop-less Inv-loop μ-loop
 loop-less c = omega arith
 
 loop-again : tie.Need-loop-again Inv-loop μ-loop
-loop-again c = (
-  omega arith,
-  moved-more _ (c .before .before .before .loop .inv .1)
-      (omega (arith, c .before .before .before .before .before .pre .0 .few)) (c .home-more .ensures),
-)
+loop-again c =
+    let at-start = c .before .before .before .before .before in (
+      omega arith,
+      moved-more _ (c .before .before .before .loop .inv .1)
+          (omega (arith, at-start .pre .0 .few)) (c .home-more .ensures),
+    )
 
 returns : tie.Need-returns Inv-loop μ-loop
 returns c = moved-end _ (c .loop-test .left) (c .before .loop .inv .0) (c .before .loop .inv .1)

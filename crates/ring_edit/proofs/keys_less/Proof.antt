@@ -15,7 +15,8 @@ Inv-loop keys n s at less₀ k₀ less k = KeysLess k s at keys less
 abbrev μ-loop : tie.MeasureT-loop
 μ-loop keys n s at less₀ k₀ less k = n - k
 
-from-below : (c : tie.After-skip Inv-loop μ-loop) → let a = c .before .before .before .args in skip (a .s) (c .before .before .loop .k) < a .n + 1
+from-below : (c : tie.After-skip Inv-loop μ-loop) → let a = c .before .before .before .args in skip (a .s)
+    (c .before .before .loop .k) < a .n + 1
 from-below c = skip-below _ _ _ (c .before .loop-test .taken)
 
 loop-holds : tie.Need-loop-holds Inv-loop μ-loop

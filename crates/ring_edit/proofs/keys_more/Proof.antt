@@ -14,7 +14,8 @@ Inv-loop keys n s at x more₀ k₀ more k = Raising k s at keys more
 abbrev μ-loop : tie.MeasureT-loop
 μ-loop keys n s at x more₀ k₀ more k = n - k
 
-to-below : (c : tie.After-skip Inv-loop μ-loop) → let a = c .before .before .before .args in skip (a .s) (c .before .before .loop .k) < a .n + 1
+to-below : (c : tie.After-skip Inv-loop μ-loop) → let a = c .before .before .before .args in skip (a .s)
+    (c .before .before .loop .k) < a .n + 1
 to-below c = skip-below _ _ _ (c .before .loop-test .taken)
 
 loop-holds : tie.Need-loop-holds Inv-loop μ-loop
@@ -47,7 +48,8 @@ loop-less c = omega arith
 loop-again : tie.Need-loop-again Inv-loop μ-loop
 loop-again c =
     let to = c .before .before in
-    raising-more (to .before .before .loop .inv) (to .skip .ensures) (omega (arith, to .skip .ensures, to-below to)) (c .raised .ensures)
+    raising-more (to .before .before .loop .inv) (to .skip .ensures) (omega (arith, to .skip .ensures, to-below to))
+    (c .raised .ensures)
 
 mul-more-2 : tie.Need-mul-more-2 Inv-loop μ-loop
 mul-more-2 c = omega arith

@@ -31,7 +31,8 @@ keyed c = c .before .before .before .before .before
 
 returns : tie.Need-returns
 returns c =
-    puts-in (keyed c .before .before .advance .ensures) (keyed c .keys-more .ensures) (c .before .slot-after .ensures .0) (c .homes-more .ensures)
+    puts-in (keyed c .before .before .advance .ensures) (keyed c .keys-more .ensures)
+    (c .before .slot-after .ensures .0) (c .homes-more .ensures)
 
 pub put-in-spec : {M : Type 1} → statement M
 put-in-spec =

@@ -27,7 +27,9 @@ loop-less : tie.Need-loop-less Inv-loop μ-loop
 loop-less c = omega arith
 
 loop-again : tie.Need-loop-again Inv-loop μ-loop
-loop-again c = unmet-more (c .before .before .before .loop .inv) (λ e. c .if1 .left (omega (arith, c .before .slot-relay .ensures .0)))
+loop-again c =
+    unmet-more (c .before .before .before .loop .inv)
+    (λ e. c .if1 .left (omega (arith, c .before .slot-relay .ensures .0)))
 
 returns-2 : tie.Need-returns-2 Inv-loop μ-loop
 returns-2 c = absurd (unmet-end (c .loop-test .left) (c .before .loop .inv) (c .before .before .pre .1))

@@ -10,7 +10,9 @@ use Rattle.roster.proofs.clear.Statement.{statement}
 use Rattle.roster.proofs.clear.Tie as tie
 
 abbrev Inv-loop : tie.InvT-loop
-Inv-loop table₀ from i₀ table i = (from ≤ i) × ((i ≤ length table₀) × ((length table ≡ length table₀) × (take i table ≡ take from table₀ ++ replicate (i - from) 0)))
+Inv-loop table₀ from i₀ table i =
+    (from ≤ i) × ((i ≤ length table₀) × ((length table ≡ length table₀)
+    × (take i table ≡ take from table₀ ++ replicate (i - from) 0)))
 
 abbrev μ-loop : tie.MeasureT-loop
 μ-loop table₀ from i₀ table i = length table₀ - i
@@ -31,13 +33,27 @@ loop-less : tie.Need-loop-less Inv-loop μ-loop
 loop-less c = omega arith
 
 loop-again : tie.Need-loop-again Inv-loop μ-loop
-loop-again c = (omega arith, (omega arith, (simp length-set (c .before .loop .inv .1 .1 .0), zeros-more (c .before .loop .table) (take (c .before .before .args .from) (c .before .before .args .table .now)) (c .before .before .args .from) (c .before .loop .i) (c .before .loop .inv .1 .1 .1) (omega arith) (omega arith))))
+loop-again c = (
+  omega arith,
+  (
+    omega arith,
+    (
+      simp length-set (c .before .loop .inv .1 .1 .0),
+      zeros-more (c .before .loop .table)
+          (take (c .before .before .args .from) (c .before .before .args .table .now)) (c .before .before .args .from)
+          (c .before .loop .i) (c .before .loop .inv .1 .1 .1) (omega arith) (omega arith),
+    ),
+  ),
+)
 
 same-length : tie.Need-same-length Inv-loop μ-loop
 same-length c = omega arith
 
 returns : tie.Need-returns Inv-loop μ-loop
-returns c = zeros-all (c .before .loop .table) (take (c .before .before .args .from) (c .before .before .args .table .now)) (c .before .before .args .from) (c .before .loop .i) (c .before .loop .inv .1 .1 .1) (c .before .loop .inv .1 .1 .0) (c .before .loop .inv .1 .0) (omega arith)
+returns c =
+    zeros-all (c .before .loop .table) (take (c .before .before .args .from) (c .before .before .args .table .now))
+    (c .before .before .args .from) (c .before .loop .i) (c .before .loop .inv .1 .1 .1) (c .before .loop .inv .1 .1 .0)
+    (c .before .loop .inv .1 .0) (omega arith)
 
 pub clear-spec : {M : Type 1} → statement M
 clear-spec =

@@ -9,7 +9,8 @@ use Rattle.roster.proofs.copy.Statement.{statement}
 use Rattle.roster.proofs.copy.Tie as tie
 
 abbrev Inv-loop : tie.InvT-loop
-Inv-loop table₀ block count i₀ table i = (i ≤ count) × ((length table ≡ length table₀) × (take (2 * i) table ≡ take (2 * i) block))
+Inv-loop table₀ block count i₀ table i =
+    (i ≤ count) × ((length table ≡ length table₀) × (take (2 * i) table ≡ take (2 * i) block))
 
 abbrev μ-loop : tie.MeasureT-loop
 μ-loop table₀ block count i₀ table i = count - i
@@ -66,13 +67,23 @@ loop-less : tie.Need-loop-less Inv-loop μ-loop
 loop-less c = omega arith
 
 loop-again : tie.Need-loop-again Inv-loop μ-loop
-loop-again c = (omega arith, (simp length-set (c .before .before .before .loop .inv .1 .0), front-more (c .before .before .before .loop .table) (c .before .before .before .before .args .block .now) (c .before .before .before .loop .i) (c .before .before .before .loop .inv .1 .1) (omega arith) (omega arith)))
+loop-again c = (
+  omega arith,
+  (
+    simp length-set (c .before .before .before .loop .inv .1 .0),
+    front-more
+        (c .before .before .before .loop .table) (c .before .before .before .before .args .block .now)
+        (c .before .before .before .loop .i) (c .before .before .before .loop .inv .1 .1) (omega arith) (omega arith),
+  ),
+)
 
 same-length : tie.Need-same-length Inv-loop μ-loop
 same-length c = omega arith
 
 returns : tie.Need-returns Inv-loop μ-loop
-returns c = front-all (c .before .loop .table) _ _ (c .before .loop .inv .1 .1) (c .before .loop .inv .0) (omega arith) (omega arith)
+returns c =
+    front-all (c .before .loop .table) _ _ (c .before .loop .inv .1 .1) (c .before .loop .inv .0) (omega arith)
+    (omega arith)
 
 pub copy-spec : {M : Type 1} → statement M
 copy-spec =

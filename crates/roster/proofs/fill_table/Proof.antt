@@ -14,7 +14,9 @@ same-length : tie.Need-same-length
 same-length c = search needs
 
 returns : tie.Need-returns
-returns c = front-filled _ _ (c .before .before .before .before .before .before .copy .kept .0) (c .before .before .before .before .before .before .copy .ensures) (c .before .before .clear .ensures)
+returns c =
+    let after-copy = c .before .before .before .before .before .before in
+    front-filled _ _ (after-copy .copy .kept .0) (after-copy .copy .ensures) (c .before .before .clear .ensures)
 
 pub fill-table-spec : {M : Type 1} → statement M
 fill-table-spec = tie.close (tie.spec copy-requires clear-requires same-length returns)

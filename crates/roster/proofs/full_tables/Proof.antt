@@ -14,19 +14,29 @@ done-requires : tie.Need-done-requires
 done-requires c κs = search needs
 
 returns : tie.Need-returns
-returns c = full-refused _ _ _ (c .before .before .before .before .before .pre) (c .before .before .look .ensures .refusal) (sym (c .before .done .ensures) ∙ not-true _ (c .if1 .taken))
+returns c =
+    let at-start = c .before .before .before .before .before in
+    full-refused _ _ _ (at-start .pre) (c .before .before .look .ensures .refusal)
+    (sym (c .before .done .ensures) ∙ not-true _ (c .if1 .taken))
 
 relay-places-requires : tie.Need-relay-places-requires
 relay-places-requires c κs = search needs
 
 returns-2 : tie.Need-returns-2
-returns-2 c = full-relays (look-start (c .before .before .before .before .before .look .ensures) (c .before .before .before .before .done .ensures) (c .before .before .before .if1 .left)) (c .before .before .relay-places .ensures) (c .if2 .taken)
+returns-2 c =
+    let after-look = c .before .before .before .before .before in
+    full-relays (look-start (after-look .look .ensures) (c .before .before .before .before .done .ensures)
+    (c .before .before .before .if1 .left)) (c .before .before .relay-places .ensures) (c .if2 .taken)
 
 tablet-places-requires : tie.Need-tablet-places-requires
 tablet-places-requires c κs = search needs
 
 returns-3 : tie.Need-returns-3
-returns-3 c = full-tablets (look-start (c .before .before .before .before .before .before .before .look .ensures) (c .before .before .before .before .before .before .done .ensures) (c .before .before .before .before .before .if1 .left)) (c .before .before .before .before .relay-places .ensures) (c .before .before .if2 .left) (c .before .tablet-places .ensures)
+returns-3 c =
+    let at-if1 = c .before .before .before .before .before in
+    full-tablets (look-start (at-if1 .before .before .look .ensures) (at-if1 .before .done .ensures)
+    (at-if1 .if1 .left)) (c .before .before .before .before .relay-places .ensures) (c .before .before .if2 .left)
+    (c .before .tablet-places .ensures)
 
 pub full-tables-spec : {M : Type 1} → statement M
 full-tables-spec =

@@ -14,19 +14,29 @@ tablet-fits-requires : tie.Need-tablet-fits-requires
 tablet-fits-requires c κs = search needs
 
 returns-2 : tie.Need-returns-2
-returns-2 c = tablets-unfit _ _ _ _ (c .before .before .before .relay-fits .ensures) (c .before .before .if1 .left) (c .before .tablet-fits .ensures) (c .if2 .taken)
+returns-2 c =
+    tablets-unfit _ _ _ _ (c .before .before .before .relay-fits .ensures) (c .before .before .if1 .left)
+    (c .before .tablet-fits .ensures) (c .if2 .taken)
 
 relay-places-requires : tie.Need-relay-places-requires
 relay-places-requires c κs = search needs
 
 returns-3 : tie.Need-returns-3
-returns-3 c = relays-short _ _ _ _ (c .before .before .before .before .before .relay-fits .ensures) (c .before .before .before .before .if1 .left) (c .before .before .before .tablet-fits .ensures) (c .before .before .if2 .left) (c .before .relay-places .ensures) (c .if3 .taken)
+returns-3 c =
+    let after-relay-fits = c .before .before .before .before .before in
+    relays-short _ _ _ _ (after-relay-fits .relay-fits .ensures) (c .before .before .before .before .if1 .left)
+    (c .before .before .before .tablet-fits .ensures) (c .before .before .if2 .left) (c .before .relay-places .ensures)
+    (c .if3 .taken)
 
 tablet-places-requires : tie.Need-tablet-places-requires
 tablet-places-requires c κs = search needs
 
 returns-4 : tie.Need-returns-4
-returns-4 c = tablets-left _ _ _ _ (c .before .before .before .before .before .before .relay-fits .ensures) (c .before .before .before .before .before .if1 .left) (c .before .before .before .before .tablet-fits .ensures) (c .before .before .before .if2 .left) (c .before .before .relay-places .ensures) (c .before .if3 .left) (c .tablet-places .ensures)
+returns-4 c =
+    let at-if1 = c .before .before .before .before .before in
+    tablets-left _ _ _ _ (at-if1 .before .relay-fits .ensures) (at-if1 .if1 .left)
+    (c .before .before .before .before .tablet-fits .ensures) (c .before .before .before .if2 .left)
+    (c .before .before .relay-places .ensures) (c .before .if3 .left) (c .tablet-places .ensures)
 
 pub tables-fit-spec : {M : Type 1} → statement M
 tables-fit-spec =

@@ -24,7 +24,10 @@ same-length-2 : tie.Need-same-length-2
 same-length-2 c = search needs
 
 returns : tie.Need-returns
-returns c = taken-not _ _ _ _ (c .before .before .before .before .before .before .before .before .before .before .entries .ensures) (c .before .before .before .before .before .before .entries2 .ensures) (c .before .full-tables .ensures) (c .if1 .taken)
+returns c =
+    let after-entries2 = c .before .before .before .before .before .before in
+    taken-not _ _ _ _ (after-entries2 .before .before .before .before .entries .ensures)
+    (after-entries2 .entries2 .ensures) (c .before .full-tables .ensures) (c .if1 .taken)
 
 fill-table-requires : tie.Need-fill-table-requires
 fill-table-requires c κs = search needs
@@ -45,7 +48,13 @@ same-length-6 : tie.Need-same-length-6
 same-length-6 c = search needs
 
 returns-2 : tie.Need-returns-2
-returns-2 c = taken-all _ _ _ _ (c .before .before .before .before .before .before .before .before .before .before .before .before .before .before .before .before .before .before .before .before .entries .ensures) (c .before .before .before .before .before .before .before .before .before .before .before .before .before .before .before .before .entries2 .ensures) (c .before .before .before .before .before .before .before .before .before .before .before .full-tables .ensures) (c .before .before .before .before .before .before .before .before .before .before .if1 .left) (c .before .before .before .before .before .before .before .fill-table .ensures) (c .before .before .fill-table2 .ensures)
+returns-2 c =
+    let after-fill-table = c .before .before .before .before .before .before .before in
+    let after-entries2 = after-fill-table .before .before .before .before .before .before .before .before .before in
+    taken-all _ _ _ _ (after-entries2 .before .before .before .before .entries .ensures)
+    (after-entries2 .entries2 .ensures) (after-fill-table .before .before .before .before .full-tables .ensures)
+    (after-fill-table .before .before .before .if1 .left) (after-fill-table .fill-table .ensures)
+    (c .before .before .fill-table2 .ensures)
 
 pub take-over-spec : {M : Type 1} → statement M
 take-over-spec =

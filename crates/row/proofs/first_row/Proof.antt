@@ -23,7 +23,8 @@ array-write-next : tie.Need-array-write-next Inv-loop μ-loop
 array-write-next c = omega arith
 
 loop-holds : tie.Need-loop-holds Inv-loop μ-loop
-loop-holds c = (omega arith, row-start (replicate mostRelays 0) (c .before .pre) refl (c .lowest .ensures), c .lowest .ensures)
+loop-holds c =
+    (omega arith, row-start (replicate mostRelays 0) (c .before .pre) refl (c .lowest .ensures), c .lowest .ensures)
 
 sub-k : tie.Need-sub-k Inv-loop μ-loop
 sub-k c = omega arith
@@ -38,8 +39,12 @@ loop-less : tie.Need-loop-less Inv-loop μ-loop
 loop-less c = omega arith
 
 loop-again : tie.Need-loop-again Inv-loop μ-loop
-loop-again c =
-    (omega arith, row-more _ (omega arith) (omega arith) (c .before .before .loop .inv .1) (c .nearer .ensures), c .nearer .ensures)
+loop-again c = (
+  omega arith,
+  row-more _ (omega arith) (omega arith) (c .before .before .loop .inv .1)
+      (c .nearer .ensures),
+  c .nearer .ensures,
+)
 
 returns : tie.Need-returns Inv-loop μ-loop
 returns c = row-end (c .loop-test .left) (c .before .loop .inv .1)

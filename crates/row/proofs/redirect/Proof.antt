@@ -18,7 +18,8 @@ abbrev μ-loop : tie.MeasureT-loop
 μ-loop next₀ k to by i₀ next i = mostRelays - i
 
 -- from k it lies so far to where they are led
-round : (c : tie.After-wrapping-sub-u8 Inv-loop μ-loop) → (c .before .args .k + c .wrapping-sub-u8 .result) % mostRelays ≡ c .before .args .to
+round : (c : tie.After-wrapping-sub-u8 Inv-loop μ-loop) → (c .before .args .k + c .wrapping-sub-u8 .result) % mostRelays
+    ≡ c .before .args .to
 round c = omega (arith, c .wrapping-sub-u8 .ensures)
 
 wrapping-sub-u8-requires : tie.Need-wrapping-sub-u8-requires Inv-loop μ-loop
@@ -46,8 +47,11 @@ loop-again : tie.Need-loop-again Inv-loop μ-loop
 loop-again c =
     let l = c .before .before .before .loop in
     let x = getD (l .next) (l .i) 0 in
-    let b = c .before .before .before .before in
-    (omega arith, redirected-more _ (l .inv .1) (omega (arith, l .inv .1 .size)) (c .instead .ensures ∙ ap (λ (t : ℕ). cond (eqb x (b .before .args .k)) t x) (round b)))
+    let b = c .before .before .before .before in (
+      omega arith,
+      redirected-more _ (l .inv .1) (omega (arith, l .inv .1 .size))
+          (c .instead .ensures ∙ ap (λ (t : ℕ). cond (eqb x (b .before .args .k)) t x) (round b)),
+    )
 
 returns : tie.Need-returns Inv-loop μ-loop
 returns c = redirected-end (c .before .loop .inv .0) (c .loop-test .left) (c .before .loop .inv .1)

@@ -14,13 +14,17 @@ use Rattle.row.proofs.take.Statement.{statement}
 use Rattle.row.proofs.take.Tie as tie
 
 -- the room there was at slot k, and the room that is left
-had : (c : tie.After-slot-relay) → getD (now (c .before .args .room)) (c .slot-relay .result) 0 ≡ slotRoom (now (c .before .args .keys)) (now (c .before .args .room)) (c .before .args .k)
+had : (c : tie.After-slot-relay) → getD (now (c .before .args .room)) (c .slot-relay .result) 0
+    ≡ slotRoom (now (c .before .args .keys)) (now (c .before .args .room)) (c .before .args .k)
 unfolding slotRoom
 had c = ap (λ (i : ℕ). getD (now (c .before .args .room)) i 0) (c .slot-relay .ensures .0)
 
-less : (c : tie.After-slot-relay) → (let room = now (c .before .args .room) in let i = c .slot-relay .result in set room i (getD room i 0 - 1) ≡ roomLess room (slotRelay (now (c .before .args .keys)) (c .before .args .k)))
+less : (c : tie.After-slot-relay) → (let room = now (c .before .args .room) in let i = c .slot-relay .result in set room
+    i (getD room i 0 - 1) ≡ roomLess room (slotRelay (now (c .before .args .keys)) (c .before .args .k)))
 unfolding roomLess
-less c = ap (λ (i : ℕ). set (now (c .before .args .room)) i (getD (now (c .before .args .room)) i 0 - 1)) (c .slot-relay .ensures .0)
+less c =
+    ap (λ (i : ℕ). set (now (c .before .args .room)) i (getD (now (c .before .args .room)) i 0 - 1))
+    (c .slot-relay .ensures .0)
 
 slot-relay-requires : tie.Need-slot-relay-requires
 slot-relay-requires c κs = search needs
@@ -53,12 +57,19 @@ cast-redirect-2 : tie.Need-cast-redirect-2
 cast-redirect-2 c = search needs
 
 redirect-requires : tie.Need-redirect-requires
-redirect-requires c κs = c .before .before .before .before .before .before .pre .row .size
+redirect-requires c κs =
+    let at-start = c .before .before .before .before .before .before in
+    at-start .pre .row .size
 
 returns : tie.Need-returns
 returns c =
-    let d = c .before .before .before .before .before .before in
-    (less d, row-shut (d .before .pre) (less d) (omega (arith, had d, c .before .before .before .before .if1 .taken, d .before .pre .opens)) (c .before .before .led-to .ensures .0) (c .redirect .ensures))
+    let after-before = c .before .before .before .before .before in
+    let d = after-before .before in (
+      less d,
+      row-shut (d .before .pre) (less d)
+          (omega (arith, had d, c .before .before .before .before .if1 .taken, d .before .pre .opens))
+          (c .before .before .led-to .ensures .0) (c .redirect .ensures),
+    )
 
 returns-2 : tie.Need-returns-2
 returns-2 c =

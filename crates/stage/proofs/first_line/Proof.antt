@@ -28,7 +28,8 @@ returns : tie.Need-returns
 unfolding first
 returns c =
     let known = c .before .before .before .before .before in
-    rw (sym (known .before .before .scheme-of .ensures) ∙ known .scheme .given .1) (says-text (c .before .before .echo .ensures))
+    rw (sym (known .before .before .scheme-of .ensures) ∙ known .scheme .given .1)
+    (says-text (c .before .before .echo .ensures))
 
 same-length-2 : tie.Need-same-length-2
 same-length-2 c = search needs
@@ -37,7 +38,8 @@ returns-2 : tie.Need-returns-2
 unfolding first
 returns-2 c =
     let told = c .before .before .before .before in
-    rw (sym (told .before .before .scheme-of .ensures) ∙ told .enum-told .given .1) (c .before .before .other-line .ensures)
+    rw (sym (told .before .before .scheme-of .ensures) ∙ told .enum-told .given .1)
+    (c .before .before .other-line .ensures)
 
 pub first-line-spec : {M : Type 1} → statement M
 first-line-spec =

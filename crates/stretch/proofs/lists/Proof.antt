@@ -18,10 +18,21 @@ abbrev μ-loop : tie.MeasureT-loop
 
 -- the relay's place, and its next index
 place : (c : tie.After-place-of Inv-loop μ-loop) → c .place-of .result < 256
-place c = omega (arith, points-place (c .before .before .before .before .before .before .before .before .pre) _ (c .before .loop-test .taken) (c .before .before .loop .inv .1 .points) (c .place-of .ensures) refl, c .before .before .before .before .before .before .before .before .pre .relaysFit .few)
+place c =
+    let at-start = c .before .before .before .before .before .before .before .before in
+    omega (
+      arith,
+      points-place (at-start .pre) _ (c .before .loop-test .taken) (c .before .before .loop .inv .1 .points)
+          (c .place-of .ensures) refl,
+      at-start .pre .relaysFit .few,
+    )
 
-inside : (c : tie.After-place-of Inv-loop μ-loop) → getD (c .before .before .loop .next) (c .place-of .result) 0 < c .before .before .before .before .before .before .before .before .args .m
-inside c = points-inside (c .before .before .before .before .before .before .before .before .pre) _ (c .before .loop-test .taken) (c .before .before .loop .inv .1 .points) (c .place-of .ensures) refl
+inside : (c : tie.After-place-of Inv-loop μ-loop) → getD (c .before .before .loop .next)
+    (c .place-of .result) 0 < c .before .before .before .before .before .before .before .before .args .m
+inside c =
+    let at-start = c .before .before .before .before .before .before .before .before in
+    points-inside (at-start .pre) _ (c .before .loop-test .taken) (c .before .before .loop .inv .1 .points)
+    (c .place-of .ensures) refl
 
 returns : tie.Need-returns Inv-loop μ-loop
 returns c = lists-short (c .before .before .before .before .pre) _ (c .if1 .taken)
@@ -30,10 +41,17 @@ starts-requires : tie.Need-starts-requires Inv-loop μ-loop
 starts-requires c κs = housed-roomed (c .before .before .before .before .pre)
 
 loop-holds : tie.Need-loop-holds Inv-loop μ-loop
-loop-holds c = (omega arith, lists-start (c .before .before .before .before .before .pre) _ (c .starts .ensures))
+loop-holds c =
+    let at-start = c .before .before .before .before .before in
+    (omega arith, lists-start (at-start .pre) _ (c .starts .ensures))
 
 place-of-requires : tie.Need-place-of-requires Inv-loop μ-loop
-place-of-requires c κs = (omega (arith, c .before .before .before .before .before .before .before .pre .tabletsFit .few), omega (arith, c .before .before .before .before .before .before .before .pre .slots _ (c .loop-test .taken), c .before .before .before .before .before .before .before .pre .relaysFit .few))
+place-of-requires c κs =
+    let at-start = c .before .before .before .before .before .before .before in (
+      omega (arith, at-start .pre .tabletsFit .few),
+      omega
+          (arith, at-start .pre .slots _ (c .loop-test .taken), at-start .pre .relaysFit .few),
+    )
 
 mul-at : tie.Need-mul-at Inv-loop μ-loop
 mul-at c = omega (arith, place c)
@@ -45,13 +63,22 @@ mul-if2 : tie.Need-mul-if2 Inv-loop μ-loop
 mul-if2 c = omega (arith, inside c)
 
 shared-slice-read-if2 : tie.Need-shared-slice-read-if2 Inv-loop μ-loop
-shared-slice-read-if2 c = omega (arith, inside (c .before), c .before .before .before .before .before .if1 .left)
+shared-slice-read-if2 c =
+    let at-if1 = c .before .before .before .before .before in
+    omega (arith, inside (c .before), at-if1 .if1 .left)
 
 tablet-number-requires : tie.Need-tablet-number-requires Inv-loop μ-loop
-tablet-number-requires c κs = omega (arith, c .before .before .before .before .before .before .before .before .before .pre .tabletsFit .there)
+tablet-number-requires c κs =
+    let at-start = c .before .before .before .before .before .before .before .before .before in
+    omega (arith, at-start .pre .tabletsFit .there)
 
 returns-2 : tie.Need-returns-2 Inv-loop μ-loop
-returns-2 c = lists-not (c .before .before .before .before .before .before .before .before .before .before .before .before .pre) _ _ (c .before .before .before .before .before .loop-test .taken) (c .before .before .before .before .before .before .loop .inv .1) (c .before .before .before .before .place-of .ensures) refl (c .before .before .tablet-number .ensures) (c .if2 .taken)
+returns-2 c =
+    let at-loop = c .before .before .before .before .before in
+    let at-start = at-loop .before .before .before .before .before .before .before in
+    lists-not (at-start .pre) _ _ (at-loop .loop-test .taken) (at-loop .before .loop .inv .1)
+    (c .before .before .before .before .place-of .ensures) refl (c .before .before .tablet-number .ensures)
+    (c .if2 .taken)
 
 add-next : tie.Need-add-next Inv-loop μ-loop
 add-next c = omega (arith, inside (c .before .before .before .before))
@@ -69,10 +96,20 @@ loop-less : tie.Need-loop-less Inv-loop μ-loop
 loop-less c = omega arith
 
 loop-again : tie.Need-loop-again Inv-loop μ-loop
-loop-again c = (omega arith, lists-more (c .before .before .before .before .before .before .before .before .before .before .before .before .pre) _ _ (c .before .before .before .before .before .loop-test .taken) (c .before .before .before .before .before .before .loop .inv .1) (c .before .before .before .before .place-of .ensures) refl (c .before .before .tablet-number .ensures) (c .if2 .left))
+loop-again c =
+    let at-loop = c .before .before .before .before .before in
+    let at-start = at-loop .before .before .before .before .before .before .before in (
+      omega arith,
+      lists-more (at-start .pre) _ _ (at-loop .loop-test .taken) (at-loop .before .loop .inv .1)
+          (c .before .before .before .before .place-of .ensures) refl (c .before .before .tablet-number .ensures)
+          (c .if2 .left),
+    )
 
 returns-3 : tie.Need-returns-3 Inv-loop μ-loop
-returns-3 c = lists-end (c .before .before .before .before .before .before .before .pre) _ (c .before .before .before .if1 .left) (c .before .loop .inv .0) (c .loop-test .left) (c .before .loop .inv .1)
+returns-3 c =
+    let at-start = c .before .before .before .before .before .before .before in
+    lists-end (at-start .pre) _ (c .before .before .before .if1 .left) (c .before .loop .inv .0) (c .loop-test .left)
+    (c .before .loop .inv .1)
 
 pub lists-spec : {M : Type 1} → statement M
 lists-spec =

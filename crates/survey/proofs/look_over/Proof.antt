@@ -24,28 +24,37 @@ use Rattle.survey.proofs.look_over.Tie as tie
 
 abbrev Inv-loop : tie.InvT-loop
 Inv-loop scheme relays tablets n m keys in-turn start room₀ next₀ last₀ home₀ slot₀ right₀ from₀ h₀ j₀ room next last home slot right from h j =
-    (j ≤ m) × (right ≡ true) × (true ≡ placed (positions scheme) relays tablets n j) × Begins keys n (keyAt (from .0)) h × Surveyed (positions scheme) relays tablets n j keys room next last home slot
+    (j ≤ m) × (right ≡ true) × (true ≡ placed (positions scheme) relays tablets n j) × Begins keys n (keyAt (from .0)) h
+    × Surveyed (positions scheme) relays tablets n j keys room next last home slot
 
 abbrev μ-loop : tie.MeasureT-loop
-μ-loop scheme relays tablets n m keys in-turn start room₀ next₀ last₀ home₀ slot₀ right₀ from₀ h₀ j₀ room next last home slot right from h j = m - j
+μ-loop scheme relays tablets n m keys in-turn start room₀ next₀ last₀ home₀ slot₀ right₀ from₀ h₀ j₀ room next last home slot right from h j =
+    m - j
 
 -- tablet j's number is within the table
 there : (c : tie.In-loop Inv-loop μ-loop) → c .before .loop .j < mostTablets
-there c = omega (arith, c .loop-test .taken, c .before .before .before .before .before .before .before .before .before .before .before .before .before .before .pre .1 .few)
+there c =
+    let at-start = c .before .before .before .before .before .before .before .before .before .before .before .before .before .before in
+    omega (arith, c .loop-test .taken, at-start .pre .1 .few)
 
 -- where tablet j stands
-stands : (c : tie.After-tablet-at Inv-loop μ-loop) → (let s = c .before .before .before .before .before .before .before .before .before .before .before .before .before .before .before .before .args in c .tablet-at .result .0 ≡ positions (s .scheme) .tabletAt (tabletNumber (now (s .tablets)) (c .before .before .before .loop .j)))
+stands : (c : tie.After-tablet-at Inv-loop μ-loop)
+    → (let s = c .before .before .before .before .before .before .before .before .before .before .before .before .before .before .before .before .args in c .tablet-at .result .0 ≡ positions (s .scheme) .tabletAt
+    (tabletNumber (now (s .tablets)) (c .before .before .before .loop .j)))
 stands c = c .tablet-at .ensures ∙ ap (positions _ .tabletAt) (c .before .tablet-number .ensures)
 
 -- and its seat
 seat : (c : tie.After-slot-relay Inv-loop μ-loop)
-    → (let s = c .before .before .before .before .before .before .before .before .before .before .before .before .before .before .before .before .before .before .before .before .before .before .before .args in let l = c .before .before .before .before .before .before .before .before .before .before .loop in Seat (positions (s .scheme)) (now (s .relays)) (now (s .tablets)) (s .n) (l .j) (c .before .before .before .before .before .before .before .before .before .before .before .before .before .before .before .before .before .before .ring-order .result) (l .room) (l .next) (l .last) (l .home) (l .slot) (c .before .before .before .before .home-of .result) (c .before .before .led-to .result) (c .slot-relay .result))
+    → (let s = c .before .before .before .before .before .before .before .before .before .before .before .before .before .before .before .before .before .before .before .before .before .before .before .args in let l = c .before .before .before .before .before .before .before .before .before .before .loop in Seat (positions (s .scheme)) (now (s .relays)) (now (s .tablets)) (s .n) (l .j) (c .before .before .before .before .before .before .before .before .before .before .before .before .before .before .before .before .before .before .ring-order .result) (l .room) (l .next) (l .last) (l .home) (l .slot) (c .before .before .before .before .home-of .result) (c .before .before .led-to .result)
+    (c .slot-relay .result))
 seat c =
-    let e = stands (c .before .before .before .before .before .before .before) in
+    let after-before = c .before .before .before .before .before .before in
+    let at-start = after-before .before .before .before .before .before .before .before .before .before .before .before .before .before .before .before .before .before in
+    let e = stands (after-before .before) in
     record {
-      survey = c .before .before .before .before .before .before .before .before .before .before .loop .inv .4;
-      few = c .before .before .before .before .before .before .before .before .before .before .before .before .before .before .before .before .before .before .before .before .before .before .before .pre .0 .few;
-      small = rw (← e) (omega (arith, c .before .before .before .before .before .before .before .tablet-at .ok));
+      survey = after-before .before .before .before .before .loop .inv .4;
+      few = at-start .pre .0 .few;
+      small = rw (← e) (omega (arith, after-before .before .tablet-at .ok));
       from = home-at e (c .before .before .before .before .home-of .ensures);
       led-to = c .before .before .led-to .ensures .0;
       relay = c .slot-relay .ensures .0;
@@ -53,12 +62,18 @@ seat c =
 
 -- the relay written beside it is the rule's, or not
 beside : (c : tie.After-stands-beside Inv-loop μ-loop)
-    → (let s = c .before .before .before .before .before .before .before .before .before .before .before .before .before .before .before .before .before .before .before .before .before .before .before .before .before .args in c .stands-beside .result ≡ placedAt (positions (s .scheme)) (now (s .relays)) (now (s .tablets)) (s .n) (c .before .before .before .before .before .before .before .before .before .before .before .before .loop .j))
+    → (let s = c .before .before .before .before .before .before .before .before .before .before .before .before .before .before .before .before .before .before .before .before .before .before .before .before .before .args in c .stands-beside .result ≡ placedAt (positions (s .scheme)) (now (s .relays)) (now (s .tablets)) (s .n)
+    (c .before .before .before .before .before .before .before .before .before .before .before .before .loop .j))
 beside c = seat-right (seat (c .before .before)) (c .stands-beside .ensures)
 
 -- where it is, the relay has room
-opens : (c : tie.Else1 Inv-loop μ-loop) → 0 < getD (c .before .before .before .before .before .before .before .before .before .before .before .before .before .loop .room) (c .before .before .before .slot-relay .result) 0
-opens c = ltb-true _ _ (and-left (ltb 0 (getD (c .before .before .before .before .before .before .before .before .before .before .before .before .before .loop .room) (c .before .before .before .slot-relay .result) 0)) _ (sym (c .before .stands-beside .ensures) ∙ not-false _ (c .if1 .left)))
+opens : (c : tie.Else1 Inv-loop μ-loop) → 0 < getD
+    (c .before .before .before .before .before .before .before .before .before .before .before .before .before .loop .room) (c .before .before .before .slot-relay .result)
+    0
+opens c =
+    let at-loop = c .before .before .before .before .before .before .before .before .before .before .before .before .before in
+    ltb-true _ _ (and-left (ltb 0 (getD (at-loop .loop .room) (c .before .before .before .slot-relay .result) 0)) _
+    (sym (c .before .stands-beside .ensures) ∙ not-false _ (c .if1 .left)))
 
 relay-positions-requires : tie.Need-relay-positions-requires Inv-loop μ-loop
 relay-positions-requires c κs = omega arith
@@ -70,27 +85,49 @@ in-turn-requires : tie.Need-in-turn-requires Inv-loop μ-loop
 in-turn-requires c κs = tt
 
 arc-starts-requires : tie.Need-arc-starts-requires Inv-loop μ-loop
-arc-starts-requires c κs = (c .before .before .before .before .before .before .before .pre .0 .few, c .before .before .ring-order .ensures .rises)
+arc-starts-requires c κs =
+    let at-start = c .before .before .before .before .before .before .before in
+    (at-start .pre .0 .few, c .before .before .ring-order .ensures .rises)
 
 relay-limits-requires : tie.Need-relay-limits-requires Inv-loop μ-loop
 relay-limits-requires c κs = omega arith
 
 first-row-requires : tie.Need-first-row-requires Inv-loop μ-loop
-first-row-requires c κs = c .before .before .before .before .before .before .before .before .before .before .before .pre .0 .few
+first-row-requires c κs =
+    let at-start = c .before .before .before .before .before .before .before .before .before .before .before in
+    at-start .pre .0 .few
 
 loop-holds : tie.Need-loop-holds Inv-loop μ-loop
 unfolding placed all
 loop-holds c =
-    (omega arith, refl, refl, begins-none _ _ _, surveyed-none (c .before .before .before .before .before .before .before .before .before .relay-positions .ensures) (c .before .before .before .before .before .before .before .ring-order .ensures) (c .before .before .before .relay-limits .ensures) (c .first-row .ensures) refl refl)
+    let after-ring-order = c .before .before .before .before .before .before .before in (
+      omega arith,
+      refl,
+      refl,
+      begins-none _ _ _,
+      surveyed-none
+          (after-ring-order .before .before .relay-positions .ensures) (after-ring-order .ring-order .ensures)
+          (c .before .before .before .relay-limits .ensures) (c .first-row .ensures) refl refl,
+    )
 
 tablet-number-requires : tie.Need-tablet-number-requires Inv-loop μ-loop
-tablet-number-requires c κs = omega (arith, c .loop-test .taken, c .before .before .before .before .before .before .before .before .before .before .before .before .before .before .pre .1 .there)
+tablet-number-requires c κs =
+    let at-start = c .before .before .before .before .before .before .before .before .before .before .before .before .before .before in
+    omega (arith, c .loop-test .taken, at-start .pre .1 .there)
 
 tablet-at-requires : tie.Need-tablet-at-requires Inv-loop μ-loop
 tablet-at-requires c κs = tt
 
 home-of-requires : tie.Need-home-of-requires Inv-loop μ-loop
-home-of-requires c κs = (c .before .before .before .before .before .before .before .before .before .before .before .before .before .before .before .before .before .before .pre .0 .few, c .before .before .before .before .before .before .before .before .before .before .before .before .before .ring-order .ensures .rises, c .before .before .before .before .before .before .before .before .before .before .arc-starts .ensures, c .before .before .before .before .before .loop .inv .3)
+home-of-requires c κs =
+    let at-loop = c .before .before .before .before .before in
+    let after-arc-starts = at-loop .before .before .before .before .before in
+    let at-start = after-arc-starts .before .before .before .before .before .before .before .before in (
+      at-start .pre .0 .few,
+      after-arc-starts .before .before .before .ring-order .ensures .rises,
+      after-arc-starts .arc-starts .ensures,
+      at-loop .loop .inv .3,
+    )
 
 led-to-requires : tie.Need-led-to-requires Inv-loop μ-loop
 led-to-requires c κs = tt
@@ -100,46 +137,86 @@ slot-relay-requires c κs = c .before .led-to .ensures .1
 
 stands-beside-requires : tie.Need-stands-beside-requires Inv-loop μ-loop
 stands-beside-requires c κs =
-    let d = c .before in
-    (d .slot-relay .ensures .1, λ w. omega (arith, seat-below (seat d) w, d .before .before .before .before .before .before .before .before .before .before .before .before .before .before .before .before .before .before .before .before .before .before .before .pre .0 .there), omega (arith, d .before .before .before .before .before .before .before .before .before .loop-test .taken, d .before .before .before .before .before .before .before .before .before .before .before .before .before .before .before .before .before .before .before .before .before .before .before .pre .1 .there))
+    let d = c .before in (
+      d .slot-relay .ensures .1,
+      λ w. omega (
+        arith,
+        seat-below
+            (seat d) w,
+        d .before .before .before .before .before .before .before .before .before .before .before .before .before .before .before .before .before .before .before .before .before .before .before .pre .0 .there,
+      ),
+      omega (
+        arith,
+        d .before .before .before .before .before .before .before .before .before .loop-test .taken,
+        d .before .before .before .before .before .before .before .before .before .before .before .before .before .before .before .before .before .before .before .before .before .before .before .pre .1 .there,
+      ),
+    )
 
 cast-home : tie.Need-cast-home Inv-loop μ-loop
 cast-home c = omega arith
 
 array-write-home : tie.Need-array-write-home Inv-loop μ-loop
-array-write-home c = there (c .before .before .before .before .before .before .before .before .before .before .before .before)
+array-write-home c =
+    let after-before = c .before .before .before .before .before .before .before .before .before .before .before in
+    there (after-before .before)
 
 cast-slot : tie.Need-cast-slot Inv-loop μ-loop
-cast-slot c = omega (arith, c .before .before .before .before .before .led-to .ensures .1)
+cast-slot c =
+    let after-led-to = c .before .before .before .before .before in
+    omega (arith, after-led-to .led-to .ensures .1)
 
 array-write-slot : tie.Need-array-write-slot Inv-loop μ-loop
-array-write-slot c = there (c .before .before .before .before .before .before .before .before .before .before .before .before)
+array-write-slot c =
+    let after-before = c .before .before .before .before .before .before .before .before .before .before .before in
+    there (after-before .before)
 
 take-requires : tie.Need-take-requires Inv-loop μ-loop
-take-requires c κs = seat-takes (seat (c .before .before .before .before .before .before)) (opens (c .before .before .before))
+take-requires c κs =
+    let after-before = c .before .before .before .before .before in
+    seat-takes (seat (after-before .before)) (opens (c .before .before .before))
 
 add-j : tie.Need-add-j Inv-loop μ-loop
-add-j c = omega (arith, there (c .before .before .before .before .before .before .before .before .before .before .before .before .before .before .before .before))
+add-j c =
+    let after-before = c .before .before .before .before .before .before .before .before .before .before .before .before .before .before .before in
+    omega (arith, there (after-before .before))
 
 cast-last : tie.Need-cast-last Inv-loop μ-loop
-cast-last c = omega (arith, there (c .before .before .before .before .before .before .before .before .before .before .before .before .before .before .before .before))
+cast-last c =
+    let after-before = c .before .before .before .before .before .before .before .before .before .before .before .before .before .before .before in
+    omega (arith, there (after-before .before))
 
 mul-last : tie.Need-mul-last Inv-loop μ-loop
-mul-last c = omega (arith, c .before .before .before .before .before .before .before .slot-relay .ensures .1)
+mul-last c =
+    let after-slot-relay = c .before .before .before .before .before .before .before in
+    omega (arith, after-slot-relay .slot-relay .ensures .1)
 
 array-write-last : tie.Need-array-write-last Inv-loop μ-loop
-array-write-last c = omega (arith, c .before .before .before .before .before .before .before .slot-relay .ensures .1)
+array-write-last c =
+    let after-slot-relay = c .before .before .before .before .before .before .before in
+    omega (arith, after-slot-relay .slot-relay .ensures .1)
 
 loop-less : tie.Need-loop-less Inv-loop μ-loop
-loop-less c = omega (arith, c .before .before .before .before .before .before .before .before .before .before .before .before .before .before .before .before .loop-test .taken)
+loop-less c =
+    let at-loop = c .before .before .before .before .before .before .before .before .before .before .before .before .before .before .before .before in
+    omega (arith, at-loop .loop-test .taken)
 
 loop-again : tie.Need-loop-again Inv-loop μ-loop
 unfolding placed
 loop-again c =
+    let after-before = c .before .before .before .before .before .before in
+    let after-home-of = after-before .before .before .before .before .before in
+    let at-loop = after-home-of .before .before .before .before .before in
     let r = not-false _ (c .before .before .before .before .if1 .left) in
-    let s = seat (c .before .before .before .before .before .before .before) in
-    let e = c .take .ensures in
-    (omega (arith, c .before .before .before .before .before .before .before .before .before .before .before .before .before .before .before .before .loop-test .taken), r, all-more (placedAt _ _ _ _) (c .before .before .before .before .before .before .before .before .before .before .before .before .before .before .before .before .before .loop .inv .2) (sym (beside (c .before .before .before .before .before)) ∙ r), c .before .before .before .before .before .before .before .before .before .before .before .home-of .ensures .begins, surveyed-more s (opens (c .before .before .before .before)) (there (c .before .before .before .before .before .before .before .before .before .before .before .before .before .before .before .before)) (e .0) (e .1))
+    let s = seat (after-before .before) in
+    let e = c .take .ensures in (
+      omega (arith, at-loop .loop-test .taken),
+      r,
+      all-more (placedAt _ _ _ _) (at-loop .before .loop .inv .2)
+          (sym (beside (c .before .before .before .before .before)) ∙ r),
+      after-home-of .home-of .ensures .begins,
+      surveyed-more s (opens (c .before .before .before .before))
+          (there (after-home-of .before .before .before .before .before)) (e .0) (e .1),
+    )
 
 returns : tie.Need-returns Inv-loop μ-loop
 returns c =
@@ -150,9 +227,10 @@ returns c =
 returns-2 : tie.Need-returns-2 Inv-loop μ-loop
 unfolding placed
 returns-2 c =
+    let at-loop = c .before .before .before .before .before .before .before .before .before .before .before .before in
     let r = not-true _ (c .if1 .taken) in
     let e = beside (c .before) in
-    (r ∙ all-false (placedAt _ _ _ _) _ (c .before .before .before .before .before .before .before .before .before .before .before .before .loop-test .taken) (sym e ∙ r), λ t. absurd (false≢true (sym r ∙ t)))
+    (r ∙ all-false (placedAt _ _ _ _) _ (at-loop .loop-test .taken) (sym e ∙ r), λ t. absurd (false≢true (sym r ∙ t)))
 
 pub look-over-spec : {M : Type 1} → statement M
 look-over-spec =

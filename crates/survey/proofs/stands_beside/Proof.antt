@@ -17,7 +17,12 @@ tablet-relay-requires : tie.Need-tablet-relay-requires
 tablet-relay-requires c κs = search needs
 
 returns : tie.Need-returns
-returns c = rw (lt-ltb _ _ (c .before .before .before .before .if1 .taken), c .before .before .before .relay-number .ensures, c .before .before .tablet-relay .ensures)
+returns c =
+    rw (
+      lt-ltb _ _ (c .before .before .before .before .if1 .taken),
+      c .before .before .before .relay-number .ensures,
+      c .before .before .tablet-relay .ensures,
+    )
 
 returns-2 : tie.Need-returns-2
 returns-2 c = rw (le-ltb _ _ (c .if1 .left))

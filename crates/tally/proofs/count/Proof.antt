@@ -39,7 +39,9 @@ same-length c = search needs
 
 returns : tie.Need-returns
 unfolding tallyOf counts
-returns c = tallied-four _ _ _ (c .before .before .before .before .before .if1 .taken) (c .counted .ensures)
+returns c =
+    let at-if1 = c .before .before .before .before .before in
+    tallied-four _ _ _ (at-if1 .if1 .taken) (c .counted .ensures)
 
 returns-2 : tie.Need-returns-2
 returns-2 c = tallied-other _ _ _ (c .if1 .left)

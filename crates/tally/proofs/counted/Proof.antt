@@ -29,7 +29,9 @@ more-requires-4 c κs = search needs
 
 returns : tie.Need-returns
 returns c =
-    counted-done _ _ _ (c .before .before .before .before .before .before .done .ensures) (c .before .before .before .before .before .if1 .taken) (c .before .before .before .more .ensures ∙ ap (more _) (c .before .before .before .before .enrolments .ensures))
+    let at-if1 = c .before .before .before .before .before in
+    counted-done _ _ _ (at-if1 .before .done .ensures) (at-if1 .if1 .taken)
+    (c .before .before .before .more .ensures ∙ ap (more _) (c .before .before .before .before .enrolments .ensures))
     (c .before .more2 .ensures ∙ ap (more _) (c .before .before .withdrawals .ensures)) (c .more3 .ensures)
 
 returns-2 : tie.Need-returns-2

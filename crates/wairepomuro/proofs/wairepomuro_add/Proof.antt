@@ -23,7 +23,9 @@ same-length-4 : tie.Need-same-length-4
 same-length-4 c = search needs
 
 returns : tie.Need-returns
-returns c = serves-call _ _ _ _ _ _ (c .before .before .before .before .before .before .before .before .before .before .add .ensures) (c .hand-out .ensures)
+returns c =
+    let after-add = c .before .before .before .before .before .before .before .before .before .before in
+    serves-call _ _ _ _ _ _ (after-add .add .ensures) (c .hand-out .ensures)
 
 pub wairepomuro-add-spec : {M : Type 1} → statement M
 wairepomuro-add-spec =

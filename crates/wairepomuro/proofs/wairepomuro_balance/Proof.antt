@@ -13,7 +13,12 @@ number-requires : tie.Need-number-requires
 number-requires c κs = search needs
 
 returns : tie.Need-returns
-returns c = record { answered = c .number .ensures ∙ ap (λ (r : Reply). numberOf (r .refusal)) (c .before .before .balance .ensures .reply); limit = c .before .before .balance .ensures .limit }
+returns c =
+    record {
+      answered = c .number .ensures ∙ ap (λ (r : Reply). numberOf (r .refusal))
+          (c .before .before .balance .ensures .reply);
+      limit = c .before .before .balance .ensures .limit;
+    }
 
 pub wairepomuro-balance-spec : {M : Type 1} → statement M
 wairepomuro-balance-spec = tie.close (tie.spec balance-requires number-requires returns)

@@ -14,7 +14,8 @@ same-length : tie.Need-same-length
 same-length c = search needs
 
 returns : tie.Need-returns
-returns c = λ moves. serves-call _ _ _ _ _ _ (c .before .before .before .before .find .ensures moves) (c .hand-out .ensures)
+returns c =
+    λ moves. serves-call _ _ _ _ _ _ (c .before .before .before .before .find .ensures moves) (c .hand-out .ensures)
 
 pub wairepomuro-find-spec : {M : Type 1} → statement M
 wairepomuro-find-spec =

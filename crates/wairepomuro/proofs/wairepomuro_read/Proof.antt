@@ -17,7 +17,9 @@ same-length-2 : tie.Need-same-length-2
 same-length-2 c = search needs
 
 returns : tie.Need-returns
-returns c = serves-reading _ _ _ (c .before .before .before .before .before .before .read .ensures) (c .number .ensures)
+returns c =
+    let after-read = c .before .before .before .before .before .before in
+    serves-reading _ _ _ (after-read .read .ensures) (c .number .ensures)
 
 pub wairepomuro-read-spec : {M : Type 1} → statement M
 wairepomuro-read-spec =

@@ -23,7 +23,9 @@ same-length-4 : tie.Need-same-length-4
 same-length-4 c = search needs
 
 returns : tie.Need-returns
-returns c = serves-call _ _ _ _ _ _ (c .before .before .before .before .before .before .before .before .before .before .remove .ensures) (c .hand-out .ensures)
+returns c =
+    let after-remove = c .before .before .before .before .before .before .before .before .before .before in
+    serves-call _ _ _ _ _ _ (after-remove .remove .ensures) (c .hand-out .ensures)
 
 pub wairepomuro-remove-spec : {M : Type 1} → statement M
 wairepomuro-remove-spec =

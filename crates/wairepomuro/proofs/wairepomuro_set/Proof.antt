@@ -23,7 +23,9 @@ same-length-4 : tie.Need-same-length-4
 same-length-4 c = search needs
 
 returns : tie.Need-returns
-returns c = serves-call _ _ _ _ _ _ (c .before .before .before .before .before .before .before .before .before .before .set .ensures) (c .hand-out .ensures)
+returns c =
+    let after-set = c .before .before .before .before .before .before .before .before .before .before in
+    serves-call _ _ _ _ _ _ (after-set .set .ensures) (c .hand-out .ensures)
 
 pub wairepomuro-set-spec : {M : Type 1} → statement M
 wairepomuro-set-spec =

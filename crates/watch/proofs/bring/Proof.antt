@@ -17,7 +17,12 @@ same-length c = search needs
 returns : tie.Need-returns
 returns c =
     let after = c .before .before in
-    omega (arith, brings-within _ (after-read-requires (after .before) (after .after-read .lifetimes)) (after .after-read .ensures), c .before .chunk2 .given)
+    omega (
+      arith,
+      brings-within _ (after-read-requires (after .before) (after .after-read .lifetimes))
+          (after .after-read .ensures),
+      c .before .chunk2 .given,
+    )
 
 pub bring-spec : {M : Type 1} → statement M
 bring-spec = tie.close (tie.spec read-requires after-read-requires same-length returns)

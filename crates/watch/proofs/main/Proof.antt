@@ -7,7 +7,8 @@ use Rattle.watch.proofs.main.Tie as tie
 
 abbrev Inv-loop : tie.InvT-loop
 Inv-loop relays₀ tablets₀ moves₀ answer₀ line₀ chunk₀ at₀ turns₀ relays tablets moves answer line chunk at turns =
-    (length relays ≡ 512) × ((length tablets ≡ 8192) × ((length moves ≡ 12288) × ((length answer ≡ 143404) × ((length line ≡ 24) × (length chunk ≡ 4096)))))
+    (length relays ≡ 512) × ((length tablets ≡ 8192)
+    × ((length moves ≡ 12288) × ((length answer ≡ 143404) × ((length line ≡ 24) × (length chunk ≡ 4096)))))
 
 abbrev μ-loop : tie.MeasureT-loop
 μ-loop relays₀ tablets₀ moves₀ answer₀ line₀ chunk₀ at₀ turns₀ relays tablets moves answer line chunk at turns =

@@ -11,7 +11,9 @@ use Rattle.watch.proofs.take_chunk.Tie as tie
 
 abbrev Inv-loop : tie.InvT-loop
 Inv-loop relays₀ tablets₀ moves₀ answer₀ line₀ chunk at₀ i₀ relays tablets moves answer line at i =
-    (i ≤ length chunk) × ((length chunk < 18446744073709551616) × ((length relays ≡ length relays₀) × ((length tablets ≡ length tablets₀) × ((length moves ≡ length moves₀) × ((length answer ≡ length answer₀) × (length line ≡ length line₀))))))
+    (i ≤ length chunk) × ((length chunk < 18446744073709551616)
+    × ((length relays ≡ length relays₀) × ((length tablets ≡ length tablets₀)
+    × ((length moves ≡ length moves₀) × ((length answer ≡ length answer₀) × (length line ≡ length line₀))))))
 
 abbrev μ-loop : tie.MeasureT-loop
 μ-loop relays₀ tablets₀ moves₀ answer₀ line₀ chunk at₀ i₀ relays tablets moves answer line at i =
@@ -27,11 +29,14 @@ take-byte-requires : tie.Need-take-byte-requires Inv-loop μ-loop
 take-byte-requires c κs = search needs
 
 send-requires : tie.Need-send-requires Inv-loop μ-loop
-send-requires c κs = takes-due (c .before .before .before .before .before .before .before .before .before .before .before .take-byte .ensures)
+send-requires c κs =
+    let after-take-byte = c .before .before .before .before .before .before .before .before .before .before .before in
+    takes-due (after-take-byte .take-byte .ensures)
 
 add-i : tie.Need-add-i Inv-loop μ-loop
 add-i c =
-    let turn = c .before .before .before .before .before .before .before .before .before .before .before .before .before .before .before .before .before .before .before in
+    let after-before = c .before .before .before .before .before .before .before .before .before .before .before .before .before .before .before .before .before .before in
+    let turn = after-before .before in
     omega (arith, turn .loop-test .taken, turn .before .loop .inv .1 .0)
 
 loop-less : tie.Need-loop-less Inv-loop μ-loop

@@ -13,7 +13,8 @@ use Rattle.write.proofs.delete_relay.Statement.{statement}
 use Rattle.write.proofs.delete_relay.Tie as tie
 
 abbrev Inv-loop : tie.InvT-loop
-Inv-loop relays₀ n at last i₀ relays i = (at ≤ i) × (i ≤ n - 1) × (length relays ≡ length relays₀) × Lowered (relayAt relays₀) (relayAt relays) at i
+Inv-loop relays₀ n at last i₀ relays i =
+    (at ≤ i) × (i ≤ n - 1) × (length relays ≡ length relays₀) × Lowered (relayAt relays₀) (relayAt relays) at i
 
 abbrev μ-loop : tie.MeasureT-loop
 μ-loop relays₀ n at last i₀ relays i = n - 1 - i
@@ -53,9 +54,15 @@ loop-less c = omega arith
 
 loop-again : tie.Need-loop-again Inv-loop μ-loop
 loop-again c =
-    let v = c .before .before .before .before .before .before .before .before .before .loop .inv in
-    let s = c .before .before .set-relay .ensures in
-    (omega arith, omega arith, s .size ∙ v .2, lowered-next _ _ _ (v .3) (v .0) (set-changed s) (ap₂ entry (c .before .before .before .before .before .before .relay-number .ensures) (c .before .before .before .before .relay-limit .ensures)))
+    let after-relay-number = c .before .before .before .before .before .before in
+    let v = after-relay-number .before .before .before .loop .inv in
+    let s = c .before .before .set-relay .ensures in (
+      omega arith,
+      omega arith,
+      s .size ∙ v .2,
+      lowered-next _ _ _ (v .3) (v .0) (set-changed s)
+          (ap₂ entry (after-relay-number .relay-number .ensures) (c .before .before .before .before .relay-limit .ensures)),
+    )
 
 set-relay-requires-2 : tie.Need-set-relay-requires-2 Inv-loop μ-loop
 unfolding relayPlaces
@@ -66,10 +73,12 @@ same-length c = omega arith
 
 returns : tie.Need-returns Inv-loop μ-loop
 returns c =
-    let v = c .before .before .before .before .before .loop .inv in
+    let at-loop = c .before .before .before .before .before in
+    let v = at-loop .loop .inv in
     let s = c .before .before .set-relay2 .ensures in
-    let p = c .before .before .before .before .before .before .before .pre in
-    took-out (s .size ∙ v .2) (lowered-end _ _ _ _ (v .3) (p .0) (v .1) (c .before .before .before .before .loop-test .left) (p .2) (set-changed s))
+    let p = at-loop .before .before .pre in
+    took-out (s .size ∙ v .2) (lowered-end _ _ _ _ (v .3) (p .0) (v .1)
+    (c .before .before .before .before .loop-test .left) (p .2) (set-changed s))
 
 pub delete-relay-spec : {M : Type 1} → statement M
 delete-relay-spec =

@@ -13,7 +13,8 @@ use Rattle.write.proofs.delete_tablet.Statement.{statement}
 use Rattle.write.proofs.delete_tablet.Tie as tie
 
 abbrev Inv-loop : tie.InvT-loop
-Inv-loop tablets₀ m at last j₀ tablets j = (at ≤ j) × (j ≤ m - 1) × (length tablets ≡ length tablets₀) × Lowered (tabletAt tablets₀) (tabletAt tablets) at j
+Inv-loop tablets₀ m at last j₀ tablets j =
+    (at ≤ j) × (j ≤ m - 1) × (length tablets ≡ length tablets₀) × Lowered (tabletAt tablets₀) (tabletAt tablets) at j
 
 abbrev μ-loop : tie.MeasureT-loop
 μ-loop tablets₀ m at last j₀ tablets j = m - 1 - j
@@ -53,9 +54,16 @@ loop-less c = omega arith
 
 loop-again : tie.Need-loop-again Inv-loop μ-loop
 loop-again c =
-    let v = c .before .before .before .before .before .before .before .before .before .loop .inv in
-    let s = c .before .before .set-tablet .ensures in
-    (omega arith, omega arith, s .size ∙ v .2, lowered-next _ _ _ (v .3) (v .0) (set-changed s) (ap₂ entry (c .before .before .before .before .before .before .tablet-number .ensures) (c .before .before .before .before .tablet-relay .ensures)))
+    let after-tablet-number = c .before .before .before .before .before .before in
+    let v = after-tablet-number .before .before .before .loop .inv in
+    let s = c .before .before .set-tablet .ensures in (
+      omega arith,
+      omega arith,
+      s .size ∙ v .2,
+      lowered-next _ _ _ (v .3) (v .0) (set-changed s)
+          (ap₂ entry (after-tablet-number .tablet-number .ensures)
+          (c .before .before .before .before .tablet-relay .ensures)),
+    )
 
 set-tablet-requires-2 : tie.Need-set-tablet-requires-2 Inv-loop μ-loop
 unfolding tabletPlaces
@@ -66,10 +74,12 @@ same-length c = omega arith
 
 returns : tie.Need-returns Inv-loop μ-loop
 returns c =
-    let v = c .before .before .before .before .before .loop .inv in
+    let at-loop = c .before .before .before .before .before in
+    let v = at-loop .loop .inv in
     let s = c .before .before .set-tablet2 .ensures in
-    let p = c .before .before .before .before .before .before .before .pre in
-    took-out (s .size ∙ v .2) (lowered-end _ _ _ _ (v .3) (p .0) (v .1) (c .before .before .before .before .loop-test .left) (p .2) (set-changed s))
+    let p = at-loop .before .before .pre in
+    took-out (s .size ∙ v .2) (lowered-end _ _ _ _ (v .3) (p .0) (v .1)
+    (c .before .before .before .before .loop-test .left) (p .2) (set-changed s))
 
 pub delete-tablet-spec : {M : Type 1} → statement M
 delete-tablet-spec =

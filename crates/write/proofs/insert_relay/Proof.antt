@@ -13,7 +13,8 @@ use Rattle.write.proofs.insert_relay.Statement.{statement}
 use Rattle.write.proofs.insert_relay.Tie as tie
 
 abbrev Inv-loop : tie.InvT-loop
-Inv-loop relays₀ n at r limit i₀ relays i = (at ≤ i) × (i ≤ n) × (length relays ≡ length relays₀) × Raised (relayAt relays₀) (relayAt relays) n i
+Inv-loop relays₀ n at r limit i₀ relays i =
+    (at ≤ i) × (i ≤ n) × (length relays ≡ length relays₀) × Raised (relayAt relays₀) (relayAt relays) n i
 
 abbrev μ-loop : tie.MeasureT-loop
 μ-loop relays₀ n at r limit i₀ relays i = i
@@ -49,9 +50,15 @@ loop-less c = omega arith
 
 loop-again : tie.Need-loop-again Inv-loop μ-loop
 loop-again c =
-    let v = c .before .before .before .before .before .before .before .before .before .loop .inv in
-    let s = c .before .before .set-relay .ensures in
-    (omega arith, omega arith, s .size ∙ v .2, raised-next _ _ _ (v .3) (omega arith) (v .1) (set-changed s) (ap₂ entry (c .before .before .before .before .before .before .relay-number .ensures) (c .before .before .before .before .relay-limit .ensures)))
+    let after-relay-number = c .before .before .before .before .before .before in
+    let v = after-relay-number .before .before .before .loop .inv in
+    let s = c .before .before .set-relay .ensures in (
+      omega arith,
+      omega arith,
+      s .size ∙ v .2,
+      raised-next _ _ _ (v .3) (omega arith) (v .1) (set-changed s)
+          (ap₂ entry (after-relay-number .relay-number .ensures) (c .before .before .before .before .relay-limit .ensures)),
+    )
 
 set-relay-requires-2 : tie.Need-set-relay-requires-2 Inv-loop μ-loop
 unfolding relayPlaces
@@ -62,9 +69,11 @@ same-length c = omega arith
 
 returns : tie.Need-returns Inv-loop μ-loop
 returns c =
-    let v = c .before .before .before .before .before .loop .inv in
+    let at-loop = c .before .before .before .before .before in
+    let v = at-loop .loop .inv in
     let s = c .before .before .set-relay2 .ensures in
-    wrote-relays (s .size ∙ v .2) (raised-end _ _ _ _ _ _ (v .3) (v .0) (c .before .before .before .before .loop-test .left) (c .before .before .before .before .before .before .before .pre .1) (set-changed s))
+    wrote-relays (s .size ∙ v .2) (raised-end _ _ _ _ _ _ (v .3) (v .0)
+    (c .before .before .before .before .loop-test .left) (at-loop .before .before .pre .1) (set-changed s))
 
 pub insert-relay-spec : {M : Type 1} → statement M
 insert-relay-spec =

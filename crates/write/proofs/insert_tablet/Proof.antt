@@ -13,7 +13,8 @@ use Rattle.write.proofs.insert_tablet.Statement.{statement}
 use Rattle.write.proofs.insert_tablet.Tie as tie
 
 abbrev Inv-loop : tie.InvT-loop
-Inv-loop tablets₀ m at t r j₀ tablets j = (at ≤ j) × (j ≤ m) × (length tablets ≡ length tablets₀) × Raised (tabletAt tablets₀) (tabletAt tablets) m j
+Inv-loop tablets₀ m at t r j₀ tablets j =
+    (at ≤ j) × (j ≤ m) × (length tablets ≡ length tablets₀) × Raised (tabletAt tablets₀) (tabletAt tablets) m j
 
 abbrev μ-loop : tie.MeasureT-loop
 μ-loop tablets₀ m at t r j₀ tablets j = j
@@ -49,9 +50,16 @@ loop-less c = omega arith
 
 loop-again : tie.Need-loop-again Inv-loop μ-loop
 loop-again c =
-    let v = c .before .before .before .before .before .before .before .before .before .loop .inv in
-    let s = c .before .before .set-tablet .ensures in
-    (omega arith, omega arith, s .size ∙ v .2, raised-next _ _ _ (v .3) (omega arith) (v .1) (set-changed s) (ap₂ entry (c .before .before .before .before .before .before .tablet-number .ensures) (c .before .before .before .before .tablet-relay .ensures)))
+    let after-tablet-number = c .before .before .before .before .before .before in
+    let v = after-tablet-number .before .before .before .loop .inv in
+    let s = c .before .before .set-tablet .ensures in (
+      omega arith,
+      omega arith,
+      s .size ∙ v .2,
+      raised-next _ _ _ (v .3) (omega arith) (v .1) (set-changed s)
+          (ap₂ entry (after-tablet-number .tablet-number .ensures)
+          (c .before .before .before .before .tablet-relay .ensures)),
+    )
 
 set-tablet-requires-2 : tie.Need-set-tablet-requires-2 Inv-loop μ-loop
 unfolding tabletPlaces
@@ -62,9 +70,11 @@ same-length c = omega arith
 
 returns : tie.Need-returns Inv-loop μ-loop
 returns c =
-    let v = c .before .before .before .before .before .loop .inv in
+    let at-loop = c .before .before .before .before .before in
+    let v = at-loop .loop .inv in
     let s = c .before .before .set-tablet2 .ensures in
-    wrote-tablets (s .size ∙ v .2) (raised-end _ _ _ _ _ _ (v .3) (v .0) (c .before .before .before .before .loop-test .left) (c .before .before .before .before .before .before .before .pre .1) (set-changed s))
+    wrote-tablets (s .size ∙ v .2) (raised-end _ _ _ _ _ _ (v .3) (v .0)
+    (c .before .before .before .before .loop-test .left) (at-loop .before .before .pre .1) (set-changed s))
 
 pub insert-tablet-spec : {M : Type 1} → statement M
 insert-tablet-spec =

@@ -13,8 +13,9 @@ same-length c = search needs
 
 returns : tie.Need-returns
 returns c =
+    let at-start = c .before .before .before .before .before in
     let s = c .before .before .set-tablet-relay .ensures in
-    let p = c .before .before .before .before .before .pre in
+    let p = at-start .pre in
     (wrote-tablets (s .size) (changed-put _ _ _ _ _ (p .0) (p .2) (beside-changed s)), s)
 
 pub seat-tablet-spec : {M : Type 1} → statement M

@@ -27,7 +27,8 @@ relay-places-requires c κs = tt
 returns-2 : tie.Need-returns-2
 unfolding relayShape shape
 returns-2 c =
-    let a = c .before .before .before .before .before .args in
+    let at-start = c .before .before .before .before .before in
+    let a = at-start .args in
     let h : relayPlaces (now (a .relays)) < a .n = omega (arith, c .before .relay-places .ensures, c .if2 .taken) in
     rw (fits (c .before .before), lt-leb _ _ h)
 
@@ -43,9 +44,16 @@ both-requires c κs = tt
 returns-3 : tie.Need-returns-3
 unfolding relayShape shape
 returns-3 c =
-    let a = c .before .before .before .before .before .before .before .before .args in
+    let at-start = c .before .before .before .before .before .before .before .before in
+    let a = at-start .args in
     let h : a .n ≤ relayPlaces (now (a .relays)) = omega arith in
-    rw (fits (c .before .before .before .before .before), le-leb _ _ h, ← c .before .before .relays-rise .ensures, ← c .before .relays-end .ensures) (c .both .ensures)
+    rw (
+      fits (c .before .before .before .before .before),
+      le-leb _ _ h,
+      ← c .before .before .relays-rise .ensures,
+      ←
+          c .before .relays-end .ensures,
+    ) (c .both .ensures)
 
 pub relay-shape-spec : {M : Type 1} → statement M
 relay-shape-spec =

@@ -1,4 +1,5 @@
--- `entries::shape::relays_end` meets its contract. The invariant: `ok` says whether the first i places behind the entries are unused. Assumes nothing.
+-- `entries::shape::relays_end` meets its contract. The invariant: `ok` says whether the first i places behind the entries are unused. Assumes
+-- nothing.
 use mathlib.Core.Path.{_≡_, refl}
 use Prim.Native.Nat.{_-_, _≤_}
 use Rattle.tables.specs.Table.{relayNumber, relayLimit}
@@ -51,8 +52,12 @@ loop-less c = omega arith
 
 loop-again : tie.Need-loop-again Inv-loop μ-loop
 loop-again c =
-    let v = c .before .before .before .before .before .loop .inv in
-    (omega arith, unused-more _ _ _ _ (v .1) (c .before .before .before .relay-number .ensures) (c .before .before .relay-limit .ensures) (c .before .unused-place .ensures) (c .both .ensures))
+    let at-loop = c .before .before .before .before .before in
+    let v = at-loop .loop .inv in (
+      omega arith,
+      unused-more _ _ _ _ (v .1) (c .before .before .before .relay-number .ensures)
+          (c .before .before .relay-limit .ensures) (c .before .unused-place .ensures) (c .both .ensures),
+    )
 
 returns : tie.Need-returns Inv-loop μ-loop
 returns c =

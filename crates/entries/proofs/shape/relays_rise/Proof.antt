@@ -12,7 +12,9 @@ use Rattle.entries.proofs.shape.relays_rise.Statement.{statement}
 use Rattle.entries.proofs.shape.relays_rise.Tie as tie
 
 abbrev Inv-loop : tie.InvT-loop
-Inv-loop relays n ok₀ before₀ i₀ ok before i = (i ≤ n) × (before ≡ previous (relayNumber relays) i) × (ok ≡ all (entryAt mostLimit (relayNumber relays) (relayLimit relays)) i)
+Inv-loop relays n ok₀ before₀ i₀ ok before i =
+    (i ≤ n) × (before ≡ previous (relayNumber relays) i)
+    × (ok ≡ all (entryAt mostLimit (relayNumber relays) (relayLimit relays)) i)
 
 abbrev μ-loop : tie.MeasureT-loop
 μ-loop relays n ok₀ before₀ i₀ ok before i = n - i
@@ -41,9 +43,14 @@ loop-less c = omega arith
 
 loop-again : tie.Need-loop-again Inv-loop μ-loop
 loop-again c =
-    let v = c .before .before .before .before .before .loop .inv in
-    let x = c .before .before .before .relay-number .ensures in
-    (omega arith, previous-more _ _ x, entry-more _ _ _ _ (v .2) (v .1) x (c .before .before .relay-limit .ensures) (c .before .entry-right .ensures) (c .both .ensures))
+    let at-loop = c .before .before .before .before .before in
+    let v = at-loop .loop .inv in
+    let x = c .before .before .before .relay-number .ensures in (
+      omega arith,
+      previous-more _ _ x,
+      entry-more _ _ _ _ (v .2) (v .1) x (c .before .before .relay-limit .ensures)
+          (c .before .entry-right .ensures) (c .both .ensures),
+    )
 
 returns : tie.Need-returns Inv-loop μ-loop
 returns c =

@@ -27,7 +27,8 @@ tablet-places-requires c κs = tt
 returns-2 : tie.Need-returns-2
 unfolding tabletShape shape
 returns-2 c =
-    let a = c .before .before .before .before .before .args in
+    let at-start = c .before .before .before .before .before in
+    let a = at-start .args in
     let h : tabletPlaces (now (a .tablets)) < a .m = omega (arith, c .before .tablet-places .ensures, c .if2 .taken) in
     rw (fits (c .before .before), lt-leb _ _ h)
 
@@ -43,9 +44,16 @@ both-requires c κs = tt
 returns-3 : tie.Need-returns-3
 unfolding tabletShape shape
 returns-3 c =
-    let a = c .before .before .before .before .before .before .before .before .args in
+    let at-start = c .before .before .before .before .before .before .before .before in
+    let a = at-start .args in
     let h : a .m ≤ tabletPlaces (now (a .tablets)) = omega arith in
-    rw (fits (c .before .before .before .before .before), le-leb _ _ h, ← c .before .before .tablets-rise .ensures, ← c .before .tablets-end .ensures) (c .both .ensures)
+    rw (
+      fits (c .before .before .before .before .before),
+      le-leb _ _ h,
+      ← c .before .before .tablets-rise .ensures,
+      ←
+          c .before .tablets-end .ensures,
+    ) (c .both .ensures)
 
 pub tablet-shape-spec : {M : Type 1} → statement M
 tablet-shape-spec =

@@ -1,4 +1,5 @@
--- `entries::shape::tablets_end` meets its contract. The invariant: `ok` says whether the first j places behind the entries are unused. Assumes nothing.
+-- `entries::shape::tablets_end` meets its contract. The invariant: `ok` says whether the first j places behind the entries are unused. Assumes
+-- nothing.
 use mathlib.Core.Path.{_≡_, refl}
 use Prim.Native.Nat.{_-_, _≤_}
 use Rattle.tables.specs.Table.{tabletNumber, tabletRelay}
@@ -10,7 +11,8 @@ use Rattle.entries.proofs.shape.tablets_end.Statement.{statement}
 use Rattle.entries.proofs.shape.tablets_end.Tie as tie
 
 abbrev Inv-loop : tie.InvT-loop
-Inv-loop tablets m left ok₀ j₀ ok j = (j ≤ left) × (ok ≡ all (unusedAt (tabletNumber tablets) (tabletRelay tablets) m) j)
+Inv-loop tablets m left ok₀ j₀ ok j =
+    (j ≤ left) × (ok ≡ all (unusedAt (tabletNumber tablets) (tabletRelay tablets) m) j)
 
 abbrev μ-loop : tie.MeasureT-loop
 μ-loop tablets m left ok₀ j₀ ok j = left - j
@@ -51,8 +53,12 @@ loop-less c = omega arith
 
 loop-again : tie.Need-loop-again Inv-loop μ-loop
 loop-again c =
-    let v = c .before .before .before .before .before .loop .inv in
-    (omega arith, unused-more _ _ _ _ (v .1) (c .before .before .before .tablet-number .ensures) (c .before .before .tablet-relay .ensures) (c .before .unused-place .ensures) (c .both .ensures))
+    let at-loop = c .before .before .before .before .before in
+    let v = at-loop .loop .inv in (
+      omega arith,
+      unused-more _ _ _ _ (v .1) (c .before .before .before .tablet-number .ensures)
+          (c .before .before .tablet-relay .ensures) (c .before .unused-place .ensures) (c .both .ensures),
+    )
 
 returns : tie.Need-returns Inv-loop μ-loop
 returns c =

@@ -12,7 +12,9 @@ use Rattle.entries.proofs.shape.tablets_rise.Statement.{statement}
 use Rattle.entries.proofs.shape.tablets_rise.Tie as tie
 
 abbrev Inv-loop : tie.InvT-loop
-Inv-loop tablets m ok₀ before₀ j₀ ok before j = (j ≤ m) × (before ≡ previous (tabletNumber tablets) j) × (ok ≡ all (entryAt topNumber (tabletNumber tablets) (tabletRelay tablets)) j)
+Inv-loop tablets m ok₀ before₀ j₀ ok before j =
+    (j ≤ m) × (before ≡ previous (tabletNumber tablets) j)
+    × (ok ≡ all (entryAt topNumber (tabletNumber tablets) (tabletRelay tablets)) j)
 
 abbrev μ-loop : tie.MeasureT-loop
 μ-loop tablets m ok₀ before₀ j₀ ok before j = m - j
@@ -41,9 +43,14 @@ loop-less c = omega arith
 
 loop-again : tie.Need-loop-again Inv-loop μ-loop
 loop-again c =
-    let v = c .before .before .before .before .before .loop .inv in
-    let x = c .before .before .before .tablet-number .ensures in
-    (omega arith, previous-more _ _ x, entry-more _ _ _ _ (v .2) (v .1) x (c .before .before .tablet-relay .ensures) (c .before .entry-right .ensures) (c .both .ensures))
+    let at-loop = c .before .before .before .before .before in
+    let v = at-loop .loop .inv in
+    let x = c .before .before .before .tablet-number .ensures in (
+      omega arith,
+      previous-more _ _ x,
+      entry-more _ _ _ _ (v .2) (v .1) x (c .before .before .tablet-relay .ensures)
+          (c .before .entry-right .ensures) (c .both .ensures),
+    )
 
 returns : tie.Need-returns Inv-loop μ-loop
 returns c =

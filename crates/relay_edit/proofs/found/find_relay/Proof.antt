@@ -20,29 +20,33 @@ returns : tie.Need-returns
 returns c =
     record {
       refusal = c .before .before .before .look .ensures .refusal;
-      stands = λ d. absurd (true-false (sym d ∙ sym (c .before .before .done .ensures) ∙ not-true _ (c .before .if1 .taken)));
+      stands = λ d. absurd (true-false (sym d ∙ sym (c .before .before .done .ensures)
+          ∙ not-true _ (c .before .if1 .taken)));
     }
 
 relay-spot-requires : tie.Need-relay-spot-requires
 relay-spot-requires c κs =
-    let r = start-rises (c .before .before .look .ensures .start (sym (c .before .done .ensures) ∙ not-false _ (c .if1 .left))) in
+    let r = start-rises (c .before .before .look .ensures .start
+    (sym (c .before .done .ensures) ∙ not-false _ (c .if1 .left))) in
     (r .relaysFit, r .relays)
 
 relay-there-requires : tie.Need-relay-there-requires
 relay-there-requires c κs =
     let r =
-    start-rises (c .before .before .before .look .ensures .start (sym (c .before .before .done .ensures) ∙ not-false _ (c .before .if1 .left))) in
+    start-rises (c .before .before .before .look .ensures .start
+    (sym (c .before .before .done .ensures) ∙ not-false _ (c .before .if1 .left))) in
     (r .relaysFit, r .relays, c .relay-spot .ensures)
 
 returns-2 : tie.Need-returns-2
 returns-2 c =
+    let after-look = c .before .before .before .before .before .before in
     record {
-      refusal = c .before .before .before .before .before .before .look .ensures .refusal;
+      refusal = after-look .look .ensures .refusal;
       stands = λ d. record {
-        survey = c .before .before .before .before .before .before .look .result .survey;
+        survey = after-look .look .result .survey;
         keys = refl;
         home = refl;
-        start = c .before .before .before .before .before .before .look .ensures .start d;
+        start = after-look .look .ensures .start d;
         spot = c .before .before .before .relay-spot .ensures;
         there-is = c .before .before .relay-there .ensures;
       };

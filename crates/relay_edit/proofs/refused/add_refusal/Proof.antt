@@ -17,8 +17,11 @@ too-large-requires c κs = search needs
 
 returns-2 : tie.Need-returns-2
 unfolding addRefusal
-returns-2 c =
-    (bar-next _ _ (ne-eqb _ _ (c .before .before .if1 .left)) (bar-first _ (sym (c .before .too-large .ensures) ∙ c .if2 .taken)), omega arith)
+returns-2 c = (
+  bar-next _ _ (ne-eqb _ _ (c .before .before .if1 .left))
+      (bar-first _ (sym (c .before .too-large .ensures) ∙ c .if2 .taken)),
+  omega arith,
+)
 
 returns-3 : tie.Need-returns-3
 unfolding addRefusal

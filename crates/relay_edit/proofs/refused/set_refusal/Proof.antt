@@ -16,7 +16,9 @@ too-large-requires c κs = search needs
 
 returns-2 : tie.Need-returns-2
 unfolding setRefusal
-returns-2 c = bar-next _ _ (ne-eqb _ _ (c .before .before .if1 .left)) (bar-first _ (sym (c .before .too-large .ensures) ∙ c .if2 .taken))
+returns-2 c =
+    bar-next _ _ (ne-eqb _ _ (c .before .before .if1 .left))
+    (bar-first _ (sym (c .before .too-large .ensures) ∙ c .if2 .taken))
 
 returns-3 : tie.Need-returns-3
 unfolding setRefusal
@@ -28,7 +30,8 @@ returns-4 : tie.Need-returns-4
 unfolding setRefusal
 returns-4 c =
     bar-next _ _ (ne-eqb _ _ (c .before .before .before .if1 .left))
-    (bar-next _ _ (sym (c .before .before .too-large .ensures) ∙ c .before .if2 .left) (bar-next _ _ (c .if3 .left) (bar-none)))
+    (bar-next _ _ (sym (c .before .before .too-large .ensures) ∙ c .before .if2 .left)
+    (bar-next _ _ (c .if3 .left) (bar-none)))
 
 pub set-refusal-spec : {M : Type 1} → statement M
 set-refusal-spec = tie.close (tie.spec returns too-large-requires returns-2 returns-3 returns-4)
