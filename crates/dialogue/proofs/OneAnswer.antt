@@ -7,11 +7,6 @@ use Rattle.stage.specs.declared.Standing.{Standing}
 use Rattle.stage.specs.Stage.{Said, Says}
 use Rattle.dialogue.specs.Lines.{Left, Shows}
 
-pub record Same (r r′ : Standing) (l l′ : Lists ℕ) (out out′ : List ℕ) : Type 0 where
-  pub standing : r ≡ r′
-  pub lent : l ≡ l′
-  pub answer : out ≡ out′
-
 says-one : {s : Said} {out out₁ out₂ : List ℕ} {r₁ r₂ : Standing} → Says s out r₁ out₁ → Says s out r₂ out₂ → r₁ ≡ r₂
 says-one {s} {out} {out₁} {out₂} {r₁} {r₂} x y =
     let e : r₁ .stage ≡ r₂ .stage = x .stage ∙ sym (y .stage) in
@@ -21,10 +16,12 @@ says-one {s} {out} {out₁} {out₂} {r₁} {r₂} x y =
 
 pub shows-one : {a : Left} {out : List ℕ} {r₁ r₂ : Standing} {l₁ l₂ : Lists ℕ} {out₁ out₂ : List ℕ}
     → Shows a out r₁ l₁ out₁ → Shows a out r₂ l₂ out₂
-    → Same r₁ r₂ l₁ l₂ out₁ out₂
-shows-one x y =
-    record {
-      standing = says-one (x .answer) (y .answer);
-      lent = x .lent ∙ sym (y .lent);
-      answer = x .answer .puts .places ∙ sym (y .answer .puts .places);
-    }
+    → (r₁ ≡ r₂) × ((l₁ ≡ l₂) × (out₁ ≡ out₂))
+shows-one x y = (
+  says-one (x .answer) (y .answer),
+  (
+    x .lent ∙ sym (y .lent),
+    x .answer .puts .places
+        ∙ sym (y .answer .puts .places),
+  ),
+)
