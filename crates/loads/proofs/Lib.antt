@@ -1,3 +1,3 @@
 pub mod Counts
-pub mod Starts
+pub mod StartsOfStretches
 pub mod Housed

@@ -26,7 +26,7 @@ use Rattle.ring.proofs.Positions.{position-small}
 use Rattle.ring_edit.specs.declared.Around.{Around}
 use Rattle.ring_edit.specs.Shift.{skip}
 use Rattle.ring_edit.specs.Homes.{Homes, TakenOut, PutsIn, PutIn}
-use Rattle.ring_edit.proofs.Around.{surveyed-homes, taken-homes, put-homes, kept-homes}
+use Rattle.ring_edit.proofs.Rings.{surveyed-homes, taken-homes, put-homes, kept-homes}
 use Rattle.call_start.proofs.Refusals.{start-rises}
 use Rattle.relay_edit.specs.Found.{Stands}
 use Rattle.relay_edit.specs.Edited.{Copied}

@@ -4,5 +4,5 @@ pub mod Less
 pub mod More
 pub mod Ahead
 pub mod Further
-pub mod Around
+pub mod Rings
 pub mod Shifts

@@ -18,7 +18,7 @@ use Rattle.tables.specs.Placement.{array}
 use Rattle.meaning.specs.Meaning.{relaysIn, tabletsIn}
 use Rattle.loads.specs.Loads.{startAt, placeOf, Housed}
 use Rattle.sheet.proofs.Lists.{sheet-length}
-use Rattle.loads.proofs.Starts.{startOf, heldBy}
+use Rattle.loads.proofs.StartsOfStretches.{startOf, heldBy}
 use Rattle.sheet.proofs.Fills.{Fills, fills-none, fills-more, fills-all}
 use Rattle.sheet.proofs.NextIndices.{Points, points-start, points-at, points-inside, points-more}
 use Rattle.stretch.proofs.Begins.{begins-take, begins-apart, begins-short}

@@ -21,7 +21,7 @@ use Rattle.meaning.specs.Meaning.{places, relaysIn, tabletsIn}
 use Rattle.lookup.specs.Spot.{Spot}
 use Rattle.loads.proofs.Counts.{load-own, load-least}
 use Rattle.sheet.proofs.Lists.{sheet-length, sheet-more, tablets-at}
-use Rattle.loads.proofs.Starts.{startOf, heldBy, start-next, start-least}
+use Rattle.loads.proofs.StartsOfStretches.{startOf, heldBy, start-next, start-least}
 
 -- ---- each tablet at its index
 

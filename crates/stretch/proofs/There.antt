@@ -22,7 +22,7 @@ use Rattle.call_start.specs.Start.{Start}
 use Rattle.call_start.proofs.Refusals.{start-rises, start-ring}
 use Rattle.lookup.specs.Spot.{Spot}
 use Rattle.loads.specs.Loads.{startAt, Roomed}
-use Rattle.loads.proofs.Starts.{startOf, heldBy, start-next, start-least, roomed-fewer, housed-roomed, start-is}
+use Rattle.loads.proofs.StartsOfStretches.{startOf, heldBy, start-next, start-least, roomed-fewer, housed-roomed, start-is}
 use Rattle.loads.proofs.Housed.{start-housed}
 use Rattle.stretch.proofs.Indices.{keep-below}
 

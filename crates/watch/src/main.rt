@@ -5,7 +5,7 @@ ghost use mathlib.Core.Path.{_≡_};
 ghost use Prim.Native.Nat.{_≤_, _<_, min};
 ghost use lib.ListN.{length, take};
 ghost use lib.Seq.{sets};
-ghost use Rattle.watch.specs.Brought.{Brings};
+ghost use Rattle.watch.specs.Chunks.{Brings};
 
 const STDIN: i32 = 0;
 

@@ -4,7 +4,7 @@ use mathlib.Core.Path.{refl}
 use Prim.Native.Nat.{_-_, _≤_, _<_}
 use native.Mathlib.Omega.{arith}
 use lib.ListN.{getD}
-use Rattle.loads.proofs.Starts.{housed-roomed}
+use Rattle.loads.proofs.StartsOfStretches.{housed-roomed}
 use Rattle.sheet.proofs.NextIndices.{points-place, points-inside}
 use Rattle.stretch.proofs.Compared.{Lists, lists-short, lists-start, lists-more, lists-not, lists-end}
 use Rattle.stretch.proofs.lists.Statement.{statement}

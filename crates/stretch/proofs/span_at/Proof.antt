@@ -1,7 +1,7 @@
 -- `stretch::span_at` meets its contract: from the relay's start to the next one's. Assumes nothing.
 use native.Mathlib.Omega.{arith}
 use borrow.Author.Needs.{needs}
-use Rattle.loads.proofs.Starts.{start-more, roomed-fewer}
+use Rattle.loads.proofs.StartsOfStretches.{start-more, roomed-fewer}
 use Rattle.stretch.proofs.span_at.Statement.{statement}
 use Rattle.stretch.proofs.span_at.Tie as tie
 

@@ -11,7 +11,7 @@ use mir.Syntax.{w64}
 use mir.Val.{toZ, ofZ, SFits}
 use mir.ValLaws.{toZ-ofZ}
 use Rattle.io.specs.Counts.{clamped}
-use Rattle.watch.proofs.Brought.{brings-bytes, brings-nothing, brings-end}
+use Rattle.watch.proofs.Chunks.{brings-bytes, brings-nothing, brings-end}
 use Rattle.watch.proofs.after_read.Statement.{statement}
 use Rattle.watch.proofs.after_read.Tie as tie
 

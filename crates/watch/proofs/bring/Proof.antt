@@ -1,7 +1,7 @@
 -- `watch::bring` answers within the chunk, whatever the read answered. Assumes nothing.
 use borrow.Author.Needs.{needs}
 use native.Mathlib.Omega.{arith}
-use Rattle.watch.proofs.Brought.{brings-within}
+use Rattle.watch.proofs.Chunks.{brings-within}
 use Rattle.watch.proofs.bring.Statement.{statement}
 use Rattle.watch.proofs.bring.Tie as tie
 

@@ -11,7 +11,7 @@ use lib.Signed.{ltZ}
 use lib.ListN.{length, take}
 use lib.Seq.{sets}
 use Rattle.io.specs.Counts.{clamped}
-use Rattle.watch.specs.Brought.{Brings, countBy, chunkBy, endedBy}
+use Rattle.watch.specs.Chunks.{Brings, countBy, chunkBy, endedBy}
 
 module _ {kept : ℕ} {chunk : List ℕ} where
   pub brings-bytes : (z : ℤ) {count : ℕ} → ltZ (pos 0) z ≡ true → count ≡ clamped z (length chunk)
