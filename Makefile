@@ -10,8 +10,12 @@ test:
 check:
 	rt check
 
-# The library for C and Rust: target/staticlib/libwairepomuro.a
-archive:
+# The library for C and Rust. It is made again when something that it is made of has changed.
+ARCHIVE = target/staticlib/libwairepomuro.a
+
+archive: $(ARCHIVE)
+
+$(ARCHIVE): crates.txt $(shell find crates -name '*.rt' -o -name '*.antt')
 	@mkdir -p target
 	@rt staticlib wairepomuro >target/staticlib.log 2>&1 || { tail -n 20 target/staticlib.log; exit 1; }
 

@@ -87,8 +87,7 @@ module _ (s : ℕ) (rs ts : List ℕ) where
 
   module _ {f : First} {v : Survey} {r : Refusal} (o : FirstLook s rs ts f)
       (e : v .right ≡ placed (positions s) rs ts (f .n) (f .m))
-      (g : v .right ≡ true → Surveyed (positions s) rs ts (f .n) (f .m) (v .keys) (v .room) (v .next) (v .last)
-      (v .home) (v .slot)) (er : r ≡ verdict (f .refusal) (v .right))
+      (g : v .right ≡ true → Surveyed (positions s) rs ts (f .n) (f .m) v) (er : r ≡ verdict (f .refusal) (v .right))
       (wr : Words rs) (wt : Words ts) where
     first-stays : v .right ≡ true → r ≡ f .refusal
     unfolding verdict

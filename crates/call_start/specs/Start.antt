@@ -40,7 +40,7 @@ pub record Start (scheme : ℕ) (rs ts : List ℕ) (n m : ℕ) (s : Survey) : Ty
   pub right : tablesRight scheme rs ts ≡ true
   pub relays : n ≡ relaysUsed rs
   pub tablets : m ≡ tabletsUsed ts
-  pub surveyed : Surveyed (positions scheme) rs ts n m (s .keys) (s .room) (s .next) (s .last) (s .home) (s .slot)
+  pub surveyed : Surveyed (positions scheme) rs ts n m s
   pub relayWords : Words rs
   pub tabletWords : Words ts
 

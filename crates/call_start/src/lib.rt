@@ -79,8 +79,8 @@ pub fn check(scheme: u32, relays: &[u32], tablets: &[u32]) -> rule::Refusal
 {
     let f = first_look(scheme, relays, tablets);
     let first = f.refusal;
-    let open = rule::done(first);
-    if !open {
+    let done = rule::done(first);
+    if !done {
         return first;
     }
     let survey = survey::look_over(scheme, relays, tablets, f.n, f.m);

@@ -14,6 +14,7 @@ use Rattle.ring.specs.Scheme.{positions}
 use Rattle.rule.specs.Entry.{insert, delete}
 use Rattle.tables.specs.Table.{relayNumber, relayLimit, tabletNumber}
 use Rattle.order.specs.Keys.{ringKey, slotRelay, Slot}
+use Rattle.survey.specs.declared.Survey.{Survey}
 use Rattle.survey.specs.Seats.{Surveyed}
 use Rattle.meaning.specs.Meaning.{relaysIn}
 use Rattle.meaning.specs.Ascending.{Ascending}
@@ -38,9 +39,19 @@ module _ {s : ℕ} {rs ts : List ℕ} {x n m at : ℕ} {there : Bool} {around : 
   rises : Rises (positions s) rs ts n m
   rises = start-rises (stands .start)
 
-  surveyed : Surveyed (positions s) rs ts n m (around .keys) (stands .survey .room) (stands .survey .next)
-      (stands .survey .last)
-      (around .home) (stands .survey .slot)
+  abbrev known : Survey
+  known =
+      record {
+        right = stands .survey .right;
+        keys = around .keys;
+        room = stands .survey .room;
+        next = stands .survey .next;
+        last = stands .survey .last;
+        home = around .home;
+        slot = stands .survey .slot;
+      }
+
+  surveyed : Surveyed (positions s) rs ts n m known
   surveyed = rw (stands .keys, stands .home) (stands .start .surveyed)
 
   small : (t : ℕ) → t < m → positions s .tabletAt (tabletNumber ts t) < 2 ^ 32

@@ -16,6 +16,7 @@ use Rattle.tables.specs.Placement.{relayPositions}
 use Rattle.tables.proofs.Loops.{array-at}
 use Rattle.order.specs.Keys.{ringKey, slotRelay, Ordered}
 use Rattle.home.specs.Home.{keyAt, Home}
+use Rattle.survey.specs.declared.Survey.{Survey}
 use Rattle.survey.specs.Seats.{HomeByte, Surveyed}
 use Rattle.nearest.specs.Nearest.{itself, round, HomeAt}
 use Rattle.ring_edit.specs.declared.Around.{Around}
@@ -45,9 +46,9 @@ byte-home {n = n} {x = x} few b = elim (decLt (b .slot) mostRelays) [
   }
 ]
 
-module _ {p : Positions} {rs ts : List ℕ} {n m : ℕ} {keys room next last home slot : List ℕ} (few : n ≤ mostRelays)
-    (v : Surveyed p rs ts n m keys room next last home slot) where
-  pub surveyed-homes : ((t : ℕ) → t < m → p .tabletAt (tabletNumber ts t) < 2 ^ 32) → Homes p rs ts n m keys home
+module _ {p : Positions} {rs ts : List ℕ} {n m : ℕ} {s : Survey} (few : n ≤ mostRelays) (v : Surveyed p rs ts n m s) where
+  pub surveyed-homes : ((t : ℕ) → t < m → p .tabletAt (tabletNumber ts t) < 2 ^ 32)
+      → Homes p rs ts n m (s .keys) (s .home)
   surveyed-homes small =
       record {
         ordered = v .ordered;
@@ -84,23 +85,22 @@ taken-homes {p} {rs} {own} {ts} {n} {m} {at} {keys} {home} {r} few o t same = re
 
 -- ---- one relay put in
 
-pub put-homes : {p : Positions} {rs own ts : List ℕ} {n m at q : ℕ} {keys room next last home slot : List ℕ}
-    {r : Around} → n < mostRelays
+pub put-homes : {p : Positions} {rs own ts : List ℕ} {n m at q : ℕ} {s : Survey} {r : Around} → n < mostRelays
     → at ≤ n → q < 2 ^ 32
-    → Surveyed p rs ts n m keys room next last home slot → PutIn p ts n m at q keys home r
+    → Surveyed p rs ts n m s → PutIn p ts n m at q (s .keys) (s .home) r
     → ((j : ℕ) → j < m → p .tabletAt (tabletNumber ts j) < 2 ^ 32)
     → ((i : ℕ) → i < n → relayNumber own (skip at i) ≡ relayNumber rs i)
     → q ≡ p .relayAt (relayNumber own at) → Homes p own ts (n + 1) m (r .keys) (r .home)
-put-homes {p} {rs} {own} {ts} {n} {m} {at} {q} {keys} {home = home} {r = r} few within small v t smalls same here =
+put-homes {p} {rs} {own} {ts} {n} {m} {at} {q} {s} {r = r} few within small v t smalls same here =
     record {
       ordered = more-ordered grown;
       size = t .moved .size ∙ v .seats .homes;
       small = smalls;
       from = λ j h. rw (t .moved .moved j h)
-          (more-home grown (p .tabletAt (tabletNumber ts j)) (smalls j h) (getD home j 0) (own-home (v .seats .from j h)));
+          (more-home grown (p .tabletAt (tabletNumber ts j)) (smalls j h) (getD (s .home) j 0) (own-home (v .seats .from j h)));
     }
   where
-    grown : Grown (relayPositions p rs n) (relayPositions p own (n + 1)) keys (r .keys) n (t .slot) at q
+    grown : Grown (relayPositions p rs n) (relayPositions p own (n + 1)) (s .keys) (r .keys) n (t .slot) at q
     grown = record {
       few = few;
       ordered = v .ordered;
@@ -115,7 +115,7 @@ put-homes {p} {rs} {own} {ts} {n} {m} {at} {q} {keys} {home = home} {r = r} few 
     }
 
     -- there are fewer relays than the most, so a byte has room for every home
-    own-home : {z x : ℕ} → HomeByte keys n z x → Home keys n (keyAt z) x
+    own-home : {z x : ℕ} → HomeByte (s .keys) n z x → Home (s .keys) n (keyAt z) x
     own-home {z} {x} b = let e : x ≡ b .slot = omega (arith, b .is, b .home .begins .within) in rw e (b .home)
 
 -- ---- the same relays

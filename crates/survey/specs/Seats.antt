@@ -11,6 +11,7 @@ use Rattle.tables.specs.Placement.{relayPositions, roomAfter, relayFor}
 use Rattle.order.specs.Keys.{slotRelay, Ordered}
 use Rattle.home.specs.Home.{keyAt, Home}
 use Rattle.row.specs.Row.{Row}
+use Rattle.survey.specs.declared.Survey.{Survey}
 
 -- for each relay one more than the place of the greatest of the first j tablets that it holds; 0 where it holds none
 unfoldable pub lastAfter : Positions → List ℕ → List ℕ → ℕ → ℕ → List ℕ
@@ -32,9 +33,9 @@ pub record Seats (p : Positions) (rs ts : List ℕ) (n j : ℕ) (keys home slot 
   pub relay : (t : ℕ) → t < j → slotRelay keys (getD slot t 0) ≡ relayFor p rs ts n t
 
 -- the first m tablets are placed by the rule
-pub record Surveyed (p : Positions) (rs ts : List ℕ) (n m : ℕ) (keys room next last home slot : List ℕ) : Type 0 where
-  pub ordered : Ordered (relayPositions p rs n) n keys
-  pub left : room ≡ roomAfter p rs ts n m
-  pub row : Row keys room n 0 next
-  pub greatest : last ≡ lastAfter p rs ts n m
-  pub seats : Seats p rs ts n m keys home slot
+pub record Surveyed (p : Positions) (rs ts : List ℕ) (n m : ℕ) (v : Survey) : Type 0 where
+  pub ordered : Ordered (relayPositions p rs n) n (v .keys)
+  pub left : v .room ≡ roomAfter p rs ts n m
+  pub row : Row (v .keys) (v .room) n 0 (v .next)
+  pub greatest : v .last ≡ lastAfter p rs ts n m
+  pub seats : Seats p rs ts n m (v .keys) (v .home) (v .slot)

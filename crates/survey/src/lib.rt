@@ -47,8 +47,7 @@ fn stands_beside(
 pub fn look_over(scheme: u32, relays: &[u32], tablets: &[u32], n: usize, m: usize) -> Survey
     requires { ⌜ RelaysIn (now relays) n × TabletsIn (now tablets) m ⌝ }
     ensures { λ r. ⌜ (r .right ≡ placed (positions scheme) (now (relays .entry)) (now (tablets .entry)) n m)
-        × (r .right ≡ true → Surveyed (positions scheme) (now (relays .entry)) (now (tablets .entry)) n m (r .keys)
-        (r .room) (r .next) (r .last) (r .home) (r .slot)) ⌝ }
+        × (r .right ≡ true → Surveyed (positions scheme) (now (relays .entry)) (now (tablets .entry)) n m r) ⌝ }
 {
     let position = placing::relay_positions(scheme, relays, n);
     let keys = order::ring_order(&position, n);

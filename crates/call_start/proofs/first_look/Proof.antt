@@ -29,13 +29,13 @@ barred-requires-2 c κs = search needs
 returns-2 : tie.Need-returns-2
 unfolding isDone
 returns-2 c =
-    let after-before = c .before .before .before .before .before in
+    let after-scheme-known = c .before .before .before .before .before in
     let wrong = c .before .before .before .shapes .ensures .wrong (not-true _ (c .before .if2 .taken)) _ in
-    let start = after-before .before in
+    let start = after-scheme-known .before in
     barred-first _ _ _ _ TablesNotRight refl (c .barred2 .ensures)
     (wrong-refused _ _ _ (words-of _ (start .before .shared-slice-known .given))
     (words-of _ (start .shared-slice-known2 .given))
-    (after-before .scheme-known .ensures) (c .before .before .before .before .if1 .left) wrong)
+    (after-scheme-known .scheme-known .ensures) (c .before .before .before .before .if1 .left) wrong)
 
 returns-3 : tie.Need-returns-3
 returns-3 c =

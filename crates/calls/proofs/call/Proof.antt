@@ -53,8 +53,8 @@ same-length-4 c = search needs
 
 returns : tie.Need-returns
 returns c =
-    let after-before = c .before .before .before .before .before .before .before in
-    let done = after-before .before in
+    let earlier = c .before .before .before .before .before .before .before .before in
+    let done = earlier in
     rw (done .before .before .before .before .before .before .c .given .1) (done .add .ensures)
 
 same-length-5 : tie.Need-same-length-5
@@ -71,8 +71,8 @@ same-length-8 c = search needs
 
 returns-2 : tie.Need-returns-2
 returns-2 c =
-    let after-before = c .before .before .before .before .before .before .before in
-    let done = after-before .before in
+    let earlier = c .before .before .before .before .before .before .before .before in
+    let done = earlier in
     rw (done .before .before .before .before .before .before .c2 .given .1) (done .remove .ensures)
 
 same-length-9 : tie.Need-same-length-9
@@ -89,8 +89,8 @@ same-length-12 c = search needs
 
 returns-3 : tie.Need-returns-3
 returns-3 c =
-    let after-before = c .before .before .before .before .before .before .before in
-    let done = after-before .before in
+    let earlier = c .before .before .before .before .before .before .before .before in
+    let done = earlier in
     rw (done .before .before .before .before .before .before .c3 .given .1) (done .set .ensures)
 
 same-length-13 : tie.Need-same-length-13
@@ -107,8 +107,8 @@ same-length-16 c = search needs
 
 returns-4 : tie.Need-returns-4
 returns-4 c =
-    let after-before = c .before .before .before .before .before in
-    let done = after-before .before in
+    let earlier = c .before .before .before .before .before .before in
+    let done = earlier in
     rw (done .before .before .before .before .before .before .c4 .given .1) (done .enrol .ensures)
 
 same-length-17 : tie.Need-same-length-17
@@ -125,8 +125,8 @@ same-length-20 c = search needs
 
 returns-5 : tie.Need-returns-5
 returns-5 c =
-    let after-before = c .before .before .before .before .before in
-    let done = after-before .before in
+    let earlier = c .before .before .before .before .before .before in
+    let done = earlier in
     rw (done .before .before .before .before .before .before .c5 .given .1) (done .withdraw .ensures)
 
 same-length-21 : tie.Need-same-length-21

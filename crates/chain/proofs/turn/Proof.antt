@@ -36,8 +36,8 @@ start c = c .before .before .before
 -- the walker is known; the visit is done; the slot is passed: of a turn that began there
 abbrev named : tie.After-from-u16 Inv-loop μ-loop → tie.In-loop Inv-loop μ-loop
 named c =
-    let after-before = c .before .before .before .before .before .before in
-    after-before .before
+    let earlier = c .before .before .before .before .before .before .before in
+    earlier
 
 abbrev passed : tie.After-next-slot Inv-loop μ-loop → tie.In-loop Inv-loop μ-loop
 passed c = named (c .before .before)

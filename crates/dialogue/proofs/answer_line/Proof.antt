@@ -46,8 +46,8 @@ same-length-5 c = search needs
 returns-2 : tie.Need-returns-2
 unfolding answered
 returns-2 c =
-    let after-before = c .before .before .before .before .before .before .before in
-    let line = after-before .before in
+    let earlier = c .before .before .before .before .before .before .before .before in
+    let line = earlier in
     rw (line .before .before .before .before .before .before .stage .given .1) (line .next-line .ensures)
 
 returns-3 : tie.Need-returns-3

@@ -42,8 +42,8 @@ same-length-4 c = search needs
 returns : tie.Need-returns
 unfolding under
 returns c =
-    let after-before = c .before .before .before .before .before .before .before .before .before .before .before in
-    let call = after-before .before in
+    let earlier = c .before .before .before .before .before .before .before .before .before .before .before .before in
+    let call = earlier in
     let known = call .before .before .before .before .before .before in
     rw (sym (known .before .before .meaning .ensures) ∙ known .c .given .1)
     (shows-call _ _ _ _ _ _ (call .call .ensures) (c .before .before .answer .ensures))

@@ -8,8 +8,8 @@ use Rattle.enrol.proofs.seat_one.Tie as tie
 -- the move is listed, from the end
 abbrev listed : tie.After-slice-known4 → tie.After-list-move
 listed c =
-    let after-before = c .before .before .before .before .before in
-    after-before .before
+    let earlier = c .before .before .before .before .before .before in
+    earlier
 
 tablet-number-requires : tie.Need-tablet-number-requires
 tablet-number-requires c κs = search needs

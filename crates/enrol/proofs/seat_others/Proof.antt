@@ -23,8 +23,8 @@ start c = c .before .before .before .before
 -- a turn, from where its tablet and its relays are known; and that, from where the tablet is seated
 abbrev turn : tie.After-seat-one-arg2 Inv-loop μ-loop → tie.In-loop Inv-loop μ-loop
 turn c =
-    let after-before = c .before .before .before .before .before .before .before in
-    after-before .before
+    let earlier = c .before .before .before .before .before .before .before .before in
+    earlier
 
 abbrev known : tie.After-slice-known4 Inv-loop μ-loop → tie.After-seat-one-arg2 Inv-loop μ-loop
 known c = c .before .before .before .before .before

@@ -27,8 +27,8 @@ same-length-5 c = search needs
 
 returns : tie.Need-returns
 returns c =
-    let after-before = c .before .before .before .before .before .before .before in
-    let line = after-before .before in
+    let earlier = c .before .before .before .before .before .before .before .before in
+    let line = earlier in
     takes-end (line .before .before .before .before .before .before .before .if1 .taken)
     (line .before .kept-part .ensures) (line .answer-line .ensures)
 

@@ -45,8 +45,8 @@ same-length-3 c = search needs
 
 abbrev start : tie.After-none2 → tie.Start
 start c =
-    let after-before = c .before .before .before .before .before .before .before .before .before .before .before .before .before .before .before in
-    after-before .before
+    let earlier = c .before .before .before .before .before .before .before .before .before .before .before .before .before .before .before .before in
+    earlier
 
 returns : tie.Need-returns
 returns c =

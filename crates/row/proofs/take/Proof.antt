@@ -63,8 +63,8 @@ redirect-requires c κs =
 
 returns : tie.Need-returns
 returns c =
-    let after-before = c .before .before .before .before .before in
-    let d = after-before .before in (
+    let earlier = c .before .before .before .before .before .before in
+    let d = earlier in (
       less d,
       row-shut (d .before .pre) (less d)
           (omega (arith, had d, c .before .before .before .before .if1 .taken, d .before .pre .opens))

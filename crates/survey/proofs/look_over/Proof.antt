@@ -17,6 +17,7 @@ use Rattle.tables.specs.Placement.{placedAt, placed}
 use Rattle.tables.proofs.Loops.{at-end, all-more, all-false}
 use Rattle.home.specs.Home.{keyAt, Begins}
 use Rattle.home.proofs.Walk.{begins-none, home-at}
+use Rattle.survey.specs.declared.Survey.{Survey}
 use Rattle.survey.specs.Seats.{Surveyed}
 use Rattle.survey.proofs.Seats.{surveyed-none, surveyed-more, surveyed-end, Seat, seat-below, seat-takes, seat-right}
 use Rattle.survey.proofs.look_over.Statement.{statement}
@@ -25,36 +26,64 @@ use Rattle.survey.proofs.look_over.Tie as tie
 abbrev Inv-loop : tie.InvT-loop
 Inv-loop scheme relays tablets n m keys in-turn start room₀ next₀ last₀ home₀ slot₀ right₀ from₀ h₀ j₀ room next last home slot right from h j =
     (j ≤ m) × (right ≡ true) × (true ≡ placed (positions scheme) relays tablets n j) × Begins keys n (keyAt (from .0)) h
-    × Surveyed (positions scheme) relays tablets n j keys room next last home slot
+    × Surveyed (positions scheme) relays tablets n j
+    (record { right = right; keys = keys; room = room; next = next; last = last; home = home; slot = slot })
 
 abbrev μ-loop : tie.MeasureT-loop
 μ-loop scheme relays tablets n m keys in-turn start room₀ next₀ last₀ home₀ slot₀ right₀ from₀ h₀ j₀ room next last home slot right from h j =
     m - j
 
--- tablet j's number is within the table
-there : (c : tie.In-loop Inv-loop μ-loop) → c .before .loop .j < mostTablets
-there c =
-    let at-start = c .before .before .before .before .before .before .before .before .before .before .before .before .before .before in
-    omega (arith, c .loop-test .taken, at-start .pre .1 .few)
+-- ---- places far back
 
--- where tablet j stands
+-- the call begins
+abbrev begin : tie.At-loop Inv-loop μ-loop → tie.Start Inv-loop μ-loop
+begin c = c .before .before .before .before .before .before .before .before .before .before .before .before .before
+
+-- the relays are in ring order
+abbrev ringed : tie.At-loop Inv-loop μ-loop → tie.After-ring-order Inv-loop μ-loop
+ringed c = c .before .before .before .before .before .before .before .before
+
+-- what is known when tablet j's turn comes
+abbrev known : tie.At-loop Inv-loop μ-loop → Survey
+known c =
+    record {
+      right = c .loop .right;
+      keys = ringed c .ring-order .result;
+      room = c .loop .room;
+      next = c .loop .next;
+      last = c .loop .last;
+      home = c .loop .home;
+      slot = c .loop .slot;
+    }
+
+-- tablet j's turn comes
+abbrev turn : tie.After-slot-relay Inv-loop μ-loop → tie.At-loop Inv-loop μ-loop
+turn c = c .before .before .before .before .before .before .before .before .before .before
+
+-- ---- one tablet
+
+-- its number is within the table
+there : (c : tie.In-loop Inv-loop μ-loop) → c .before .loop .j < mostTablets
+there c = omega (arith, c .loop-test .taken, begin (c .before) .pre .1 .few)
+
+-- where it stands
 stands : (c : tie.After-tablet-at Inv-loop μ-loop)
-    → (let s = c .before .before .before .before .before .before .before .before .before .before .before .before .before .before .before .before .args in c .tablet-at .result .0 ≡ positions (s .scheme) .tabletAt
-    (tabletNumber (now (s .tablets)) (c .before .before .before .loop .j)))
+    → (let l = c .before .before .before in let s = begin l .args in
+    c .tablet-at .result .0 ≡ positions (s .scheme) .tabletAt (tabletNumber (now (s .tablets)) (l .loop .j)))
 stands c = c .tablet-at .ensures ∙ ap (positions _ .tabletAt) (c .before .tablet-number .ensures)
 
 -- and its seat
 seat : (c : tie.After-slot-relay Inv-loop μ-loop)
-    → (let s = c .before .before .before .before .before .before .before .before .before .before .before .before .before .before .before .before .before .before .before .before .before .before .before .args in let l = c .before .before .before .before .before .before .before .before .before .before .loop in Seat (positions (s .scheme)) (now (s .relays)) (now (s .tablets)) (s .n) (l .j) (c .before .before .before .before .before .before .before .before .before .before .before .before .before .before .before .before .before .before .ring-order .result) (l .room) (l .next) (l .last) (l .home) (l .slot) (c .before .before .before .before .home-of .result) (c .before .before .led-to .result)
-    (c .slot-relay .result))
+    → (let l = turn c in let s = begin l .args in
+    Seat (positions (s .scheme)) (now (s .relays)) (now (s .tablets)) (s .n) (l .loop .j) (known l)
+    (c .before .before .before .before .home-of .result) (c .before .before .led-to .result) (c .slot-relay .result))
 seat c =
-    let after-before = c .before .before .before .before .before .before in
-    let at-start = after-before .before .before .before .before .before .before .before .before .before .before .before .before .before .before .before .before .before in
-    let e = stands (after-before .before) in
+    let after-tablet-at = c .before .before .before .before .before .before .before in
+    let e = stands after-tablet-at in
     record {
-      survey = after-before .before .before .before .before .loop .inv .4;
-      few = at-start .pre .0 .few;
-      small = rw (← e) (omega (arith, after-before .before .tablet-at .ok));
+      survey = turn c .loop .inv .4;
+      few = begin (turn c) .pre .0 .few;
+      small = rw (← e) (omega (arith, after-tablet-at .tablet-at .ok));
       from = home-at e (c .before .before .before .before .home-of .ensures);
       led-to = c .before .before .led-to .ensures .0;
       relay = c .slot-relay .ensures .0;
@@ -62,17 +91,16 @@ seat c =
 
 -- the relay written beside it is the rule's, or not
 beside : (c : tie.After-stands-beside Inv-loop μ-loop)
-    → (let s = c .before .before .before .before .before .before .before .before .before .before .before .before .before .before .before .before .before .before .before .before .before .before .before .before .before .args in c .stands-beside .result ≡ placedAt (positions (s .scheme)) (now (s .relays)) (now (s .tablets)) (s .n)
-    (c .before .before .before .before .before .before .before .before .before .before .before .before .loop .j))
+    → (let l = turn (c .before .before) in let s = begin l .args in
+    c .stands-beside .result ≡ placedAt (positions (s .scheme)) (now (s .relays)) (now (s .tablets)) (s .n) (l .loop .j))
 beside c = seat-right (seat (c .before .before)) (c .stands-beside .ensures)
 
 -- where it is, the relay has room
-opens : (c : tie.Else1 Inv-loop μ-loop) → 0 < getD
-    (c .before .before .before .before .before .before .before .before .before .before .before .before .before .loop .room) (c .before .before .before .slot-relay .result)
-    0
+opens : (c : tie.Else1 Inv-loop μ-loop)
+    → (let d = c .before .before .before in 0 < getD (turn d .loop .room) (d .slot-relay .result) 0)
 opens c =
-    let at-loop = c .before .before .before .before .before .before .before .before .before .before .before .before .before in
-    ltb-true _ _ (and-left (ltb 0 (getD (at-loop .loop .room) (c .before .before .before .slot-relay .result) 0)) _
+    let d = c .before .before .before in
+    ltb-true _ _ (and-left (ltb 0 (getD (turn d .loop .room) (d .slot-relay .result) 0)) _
     (sym (c .before .stands-beside .ensures) ∙ not-false _ (c .if1 .left)))
 
 relay-positions-requires : tie.Need-relay-positions-requires Inv-loop μ-loop
@@ -111,22 +139,18 @@ loop-holds c =
     )
 
 tablet-number-requires : tie.Need-tablet-number-requires Inv-loop μ-loop
-tablet-number-requires c κs =
-    let at-start = c .before .before .before .before .before .before .before .before .before .before .before .before .before .before in
-    omega (arith, c .loop-test .taken, at-start .pre .1 .there)
+tablet-number-requires c κs = omega (arith, c .loop-test .taken, begin (c .before) .pre .1 .there)
 
 tablet-at-requires : tie.Need-tablet-at-requires Inv-loop μ-loop
 tablet-at-requires c κs = tt
 
 home-of-requires : tie.Need-home-of-requires Inv-loop μ-loop
 home-of-requires c κs =
-    let at-loop = c .before .before .before .before .before in
-    let after-arc-starts = at-loop .before .before .before .before .before in
-    let at-start = after-arc-starts .before .before .before .before .before .before .before .before in (
-      at-start .pre .0 .few,
-      after-arc-starts .before .before .before .ring-order .ensures .rises,
-      after-arc-starts .arc-starts .ensures,
-      at-loop .loop .inv .3,
+    let l = c .before .before .before .before .before in (
+      begin l .pre .0 .few,
+      ringed l .ring-order .ensures .rises,
+      l .before .before .before .before .before .arc-starts .ensures,
+      l .loop .inv .3,
     )
 
 led-to-requires : tie.Need-led-to-requires Inv-loop μ-loop
@@ -137,19 +161,11 @@ slot-relay-requires c κs = c .before .led-to .ensures .1
 
 stands-beside-requires : tie.Need-stands-beside-requires Inv-loop μ-loop
 stands-beside-requires c κs =
-    let d = c .before in (
+    let d = c .before in
+    let l = turn d in (
       d .slot-relay .ensures .1,
-      λ w. omega (
-        arith,
-        seat-below
-            (seat d) w,
-        d .before .before .before .before .before .before .before .before .before .before .before .before .before .before .before .before .before .before .before .before .before .before .before .pre .0 .there,
-      ),
-      omega (
-        arith,
-        d .before .before .before .before .before .before .before .before .before .loop-test .taken,
-        d .before .before .before .before .before .before .before .before .before .before .before .before .before .before .before .before .before .before .before .before .before .before .before .pre .1 .there,
-      ),
+      λ w. omega (arith, seat-below (seat d) w, begin l .pre .0 .there),
+      omega (arith, d .before .before .before .before .before .before .before .before .before .loop-test .taken, begin l .pre .1 .there),
     )
 
 cast-home : tie.Need-cast-home Inv-loop μ-loop
@@ -157,8 +173,8 @@ cast-home c = omega arith
 
 array-write-home : tie.Need-array-write-home Inv-loop μ-loop
 array-write-home c =
-    let after-before = c .before .before .before .before .before .before .before .before .before .before .before in
-    there (after-before .before)
+    let earlier = c .before .before .before .before .before .before .before .before .before .before .before .before in
+    there (earlier)
 
 cast-slot : tie.Need-cast-slot Inv-loop μ-loop
 cast-slot c =
@@ -167,23 +183,23 @@ cast-slot c =
 
 array-write-slot : tie.Need-array-write-slot Inv-loop μ-loop
 array-write-slot c =
-    let after-before = c .before .before .before .before .before .before .before .before .before .before .before in
-    there (after-before .before)
+    let earlier = c .before .before .before .before .before .before .before .before .before .before .before .before in
+    there (earlier)
 
 take-requires : tie.Need-take-requires Inv-loop μ-loop
 take-requires c κs =
-    let after-before = c .before .before .before .before .before in
-    seat-takes (seat (after-before .before)) (opens (c .before .before .before))
+    let earlier = c .before .before .before .before .before .before in
+    seat-takes (seat (earlier)) (opens (c .before .before .before))
 
 add-j : tie.Need-add-j Inv-loop μ-loop
 add-j c =
-    let after-before = c .before .before .before .before .before .before .before .before .before .before .before .before .before .before .before in
-    omega (arith, there (after-before .before))
+    let earlier = c .before .before .before .before .before .before .before .before .before .before .before .before .before .before .before .before in
+    omega (arith, there (earlier))
 
 cast-last : tie.Need-cast-last Inv-loop μ-loop
 cast-last c =
-    let after-before = c .before .before .before .before .before .before .before .before .before .before .before .before .before .before .before in
-    omega (arith, there (after-before .before))
+    let earlier = c .before .before .before .before .before .before .before .before .before .before .before .before .before .before .before .before in
+    omega (arith, there (earlier))
 
 mul-last : tie.Need-mul-last Inv-loop μ-loop
 mul-last c =
@@ -203,11 +219,11 @@ loop-less c =
 loop-again : tie.Need-loop-again Inv-loop μ-loop
 unfolding placed
 loop-again c =
-    let after-before = c .before .before .before .before .before .before in
-    let after-home-of = after-before .before .before .before .before .before in
+    let earlier = c .before .before .before .before .before .before .before in
+    let after-home-of = earlier .before .before .before .before in
     let at-loop = after-home-of .before .before .before .before .before in
     let r = not-false _ (c .before .before .before .before .if1 .left) in
-    let s = seat (after-before .before) in
+    let s = seat (earlier) in
     let e = c .take .ensures in (
       omega (arith, at-loop .loop-test .taken),
       r,

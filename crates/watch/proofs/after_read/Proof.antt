@@ -50,8 +50,8 @@ same-length-3 c = search needs
 
 returns-3 : tie.Need-returns-3
 returns-3 c =
-    let after-before = c .before .before .before .before .before .before .before .before in
-    let start = after-before .before in
+    let earlier = c .before .before .before .before .before .before .before .before .before in
+    let start = earlier in
     let tests = c .before .before .before .before in
     brings-end
     _

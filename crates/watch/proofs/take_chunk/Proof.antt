@@ -35,8 +35,8 @@ send-requires c κs =
 
 add-i : tie.Need-add-i Inv-loop μ-loop
 add-i c =
-    let after-before = c .before .before .before .before .before .before .before .before .before .before .before .before .before .before .before .before .before .before in
-    let turn = after-before .before in
+    let earlier = c .before .before .before .before .before .before .before .before .before .before .before .before .before .before .before .before .before .before .before in
+    let turn = earlier in
     omega (arith, turn .loop-test .taken, turn .before .loop .inv .1 .0)
 
 loop-less : tie.Need-loop-less Inv-loop μ-loop
