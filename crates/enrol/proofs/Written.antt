@@ -1,4 +1,7 @@
--- The call once it is planned: what is written is the outcome. Assumes nothing.
+-- The call once it is planned: what is written is the outcome.
+--   enrolled-answers    so the call keeps its promise
+--   place-still         the newcomer's place is the same once the others sat down
+-- Assumes nothing.
 use mathlib.Core.Bool.{true}
 use mathlib.Core.Path.{_≡_, refl, sym, ap, _∙_}
 use mathlib.Core.List.{List, [], _∷_}

@@ -1,4 +1,11 @@
--- The plan of an enrolment: each way out, and the one past them all. Assumes nothing.
+-- The plan of an enrolment: each way out, and the one past them all.
+--   test-false, test-true    a test of a refusal, and what it says
+--   refused-plan             a refusal, with nobody to seat
+--   bars-passed              the refusals 3, 6 and 7 do not apply
+--   barred-plan, shut-plan, short-plan    one of them does; 8; 9
+--   turn-from                the turn can be made
+--   whole-plan               past all refusals: who sits down where
+-- Assumes nothing.
 use mathlib.Core.Bool.{Bool, true, false, not}
 use mathlib.Core.Path.{_≡_, refl, sym, ap, _∙_}
 use mathlib.Core.List.{List}
@@ -48,6 +55,8 @@ use Rattle.newcomer.proofs.Outcomes.{
   length-others,
 }
 
+-- ---- refusals
+
 -- a test that came out false
 pub test-false : {b : Bool} (r : Refusal) → b ≡ isDone r → not b ≡ true → isDone r ≡ false
 test-false r e h = sym e ∙ not-true _ h
@@ -76,6 +85,8 @@ bars-passed x there places m h =
     let c = bar-passed (leb places m) _ _ refl (b .1) in
     let ne : x ≡ 0 → ⊥ = eqb-false x 0 (a .0) in
     record { some-number = omega arith; new = b .0; unused = leb-false places m (c .0) }
+
+-- ---- the plan
 
 -- what is known of the newcomer once the tables are right: its place, whether it is there, and how many places there are
 pub record Asked (s : ℕ) (rs ts : List ℕ) (n m : ℕ) (v : Survey) (t : TabletNumber) (at : ℕ) (there : Bool)

@@ -1,4 +1,7 @@
 -- Demand 3: on a ring that has no relay less, no limit lower and no tablet more, no tablet sits later.
+--   demand-3                                     the demand, of two rings
+--   has-in, in-has, held-has                     which numbers a table has
+--   beside-held, has-sits, sits-beside           what stands beside a number
 -- Assumes nothing.
 use mathlib.Core.Bool.{true}
 use mathlib.Core.Path.{_≡_, refl, sym, _∙_}

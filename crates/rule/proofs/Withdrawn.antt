@@ -1,6 +1,8 @@
 -- The hole-filling of document 01 ends in the rule's placement of the smaller set, and the numbers of its chain rise.
 -- The invariant (`Gap`): everybody sits as if the hole were still taken by who left it. Whoever takes it has a greater number, so that fewer
 -- and fewer numbers are left above.
+--   withdrawn-placement    it ends in the rule's placement
+--   withdrawn-rising       the numbers of its chain rise
 -- Assumes nothing.
 use mathlib.Core.Bool.{true, false}
 use mathlib.Core.Path.{_≡_, refl, sym, ap, _∙_}

@@ -1,4 +1,7 @@
--- From how a read's answer compares with 0 to what it brought, and that this lies within the chunk. Assumes nothing.
+-- From how a read's answer compares with 0 to what it brought.
+--   brings-bytes, brings-nothing, brings-end    bytes came; it failed; the input has ended
+--   brings-within                               what it brought lies within the chunk
+-- Assumes nothing.
 use mathlib.Core.Bool.{Bool, true, false}
 use mathlib.Core.List.{List, [], _∷_}
 use mathlib.Core.Path.{_≡_, refl, sym, subst}
