@@ -1,6 +1,5 @@
 // The six calls, each of which also brings the lent tally up to date, and the six as one (document 01, "Replies", "Sheet, balance, tally"). A tally
-// is
-// four numbers; one of another length is left as it is, and the call does and replies the same.
+// is four numbers; one of another length is left as it is, and the call does and replies the same.
 ghost use mathlib.Core.List.{List};
 ghost use Prim.Native.Nat.{ℕ};
 ghost use Rattle.rule.specs.declared.Call.the-variants.{Add, Remove, Set, Enrol, Withdraw, Find};

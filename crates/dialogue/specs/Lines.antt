@@ -1,6 +1,5 @@
 -- What `watch` does for a line (document 01, "A drill to prove"; docs/DECISIONS.md, reading 9): a call is made and answered, and any other line
--- leaves
--- all that is lent. Assumes nothing.
+-- leaves all that is lent. Assumes nothing.
 use mathlib.Core.List.{List, []}
 use mathlib.Core.Path.{_≡_}
 use Prim.Native.Nat.{ℕ}

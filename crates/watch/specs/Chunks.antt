@@ -1,6 +1,5 @@
 -- What a read of the input brings (document 01, "A drill to prove"; docs/DECISIONS.md, reading 9). A read answers how many bytes came, 0 at the end
--- of
--- the input, and a number below 0 where it failed. Assumes nothing.
+-- of the input, and a number below 0 where it failed. Assumes nothing.
 use mathlib.Core.Bool.{Bool, true, false}
 use mathlib.Core.List.{List, [], _∷_}
 use mathlib.Core.Path.{_≡_}
