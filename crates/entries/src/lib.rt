@@ -41,7 +41,7 @@ fn tablet_edge(tablets: &[u32]) -> usize
 }
 
 // Is a table as it must be, and how many entries has it then?
-#[derive(Drop)]
+#[derive(Clone, Copy)]
 pub struct Entries {
     pub right: bool,
     pub count: usize,
@@ -70,7 +70,7 @@ pub fn tablet_entries(tablets: &[u32]) -> Entries
 }
 
 // Are both tables as they must be, and how many relays and tablets have they? None where one of them is not.
-#[derive(Drop)]
+#[derive(Clone, Copy)]
 pub struct Counts {
     pub right: bool,
     pub n: usize,

@@ -49,7 +49,7 @@ pub fn entries(bytes: &[u8], at: usize, count: usize, table: &mut [u32])
 // ---- the trailer
 
 // Is the shape right, and what are the counts and the scheme?
-#[derive(Drop)]
+#[derive(Clone, Copy)]
 pub struct Trailer {
     pub right: bool,
     pub relays: usize,

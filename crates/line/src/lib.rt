@@ -7,20 +7,20 @@ ghost use Rattle.line.specs.Line.{words, with_one, with_two, said, meaning_of, s
 const NONE: u64 = ring::NUMBERS;
 
 // A plain decimal, or none.
-#[derive(Drop)]
+#[derive(Clone, Copy)]
 pub enum Number {
     Is(u32),
     Not,
 }
 
-#[derive(Drop)]
+#[derive(Clone, Copy)]
 pub enum Line {
     Call(rule::Call),
     Other,
 }
 
 // A first line, which names the scheme.
-#[derive(Drop)]
+#[derive(Clone, Copy)]
 pub enum First {
     Scheme(u32),
     Other,

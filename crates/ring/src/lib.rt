@@ -4,13 +4,13 @@ ghost use Rattle.ring.specs.Fnv.{mixed, fnv, four_bytes};
 ghost use Rattle.ring.specs.Scheme.{known, position, positions};
 ghost use Rattle.ring.specs.Clockwise.{clockwise};
 
-#[derive(Drop)]
+#[derive(Clone, Copy)]
 pub struct TabletNumber(pub u32);
 
-#[derive(Drop)]
+#[derive(Clone, Copy)]
 pub struct RelayNumber(pub u32);
 
-#[derive(Drop)]
+#[derive(Clone, Copy)]
 pub struct Position(pub u32);
 
 // How many numbers, and so positions, there are; and the greatest.

@@ -57,12 +57,14 @@ Real (b ∷ bs) = (is_done b.refusal ≡ false) × Real bs
 
 module _ (rank : Refusal → ℕ) where
   ranked_above : (low : ℕ) (bs : List Bar) → Ranked rank low bs → (b : Bar) → OneOf b bs → low < rank b.refusal
+  ranked_above low [] r b x = elim x [ ]
   ranked_above low (c ∷ cs) r b (inl e) = rw e r.0
   ranked_above low (c ∷ cs) r b (inr i) = omega (arith, r.0, ranked_above (rank c.refusal) cs r.1 b i)
 
   first_lowest : (low : ℕ) (bs : List Bar) → Ranked rank low bs → (b : Bar) → OneOf b bs → b.applies ≡ true
       → rank (first_bar bs) ≤ rank b.refusal
   unfolding first_bar
+  first_lowest low [] r b x h = elim x [ ]
   first_lowest low (c ∷ cs) r b (inl e) h =
       let a : c.applies ≡ true = ap (λ (x : Bar). x.applies) (sym e) ∙ h in
       rw (a, first_bar, e) (omega arith)
@@ -85,6 +87,7 @@ first_applies (c ∷ cs) h = go c.applies refl (λ k. first_applies cs k)
 
 first_none : (bs : List Bar) → Real bs → is_done (first_bar bs) ≡ true → (b : Bar) → OneOf b bs → b.applies ≡ false
 unfolding first_bar
+first_none [] r d b i = elim i [ ]
 first_none (c ∷ cs) r d b i =
     split c.applies
     (λ s. absurd (true_false (sym (rw (s, first_bar) at d) ∙ r.0)))

@@ -3,7 +3,7 @@ ghost use Rattle.std.specs.Prelude.{◌≡◌};
 ghost use Rattle.rule.specs.Refusals.{number_of, is_done, bare_reply};
 
 // Why a call did nothing ("Replies"), or that it is done.
-#[derive(Drop)]
+#[derive(Clone, Copy)]
 pub enum Refusal {
     Done,
     SchemeUnknown,
@@ -21,7 +21,7 @@ pub enum Refusal {
 }
 
 // A call on the lent tables. `Add` and `Set` bring the relay's limit.
-#[derive(Drop)]
+#[derive(Clone, Copy)]
 pub enum Call {
     Add(ring::RelayNumber, u32),
     Remove(ring::RelayNumber),
@@ -32,7 +32,7 @@ pub enum Call {
 }
 
 // What a call replies. `moves` is how many; the moves themselves stand in the lent list.
-#[derive(Drop)]
+#[derive(Clone, Copy)]
 pub struct Reply {
     pub refusal: Refusal,
     pub relay: ring::RelayNumber,
@@ -41,7 +41,7 @@ pub struct Reply {
 }
 
 // One move of a move list.
-#[derive(Drop)]
+#[derive(Clone, Copy)]
 pub struct Move {
     pub tablet: ring::TabletNumber,
     pub old: ring::RelayNumber,
@@ -49,7 +49,7 @@ pub struct Move {
 }
 
 // What a station counts.
-#[derive(Drop)]
+#[derive(Clone, Copy)]
 pub struct Tally {
     pub enrolments: u32,
     pub withdrawals: u32,

@@ -5,7 +5,7 @@ ghost use Rattle.line.specs.Line.{scheme_of};
 ghost use Rattle.stage.specs.Stage.{is_over, Says, other, first};
 
 // What the next line is: the first, which names the scheme, or a call under a scheme; or there is none, since the run is over.
-#[derive(Drop)]
+#[derive(Clone, Copy)]
 pub enum Stage {
     First,
     Under(u32),

@@ -1,0 +1,11 @@
+-- `ring::hash` meets its contract. The invariant: mixing what is left of the bytes into the hash so far gives the hash of all.
+-- Assumes nothing.
+use Rattle.std.proofs.Common.{◌≡◌, ℕ, ◌+◌, ◌-◌, ◌<◌, ◌≤◌, List, length, get_or, drop, sym, refl, ap, ◌∙◌, add-one, drop_of_length-le, drop-cons, rules}
+use Rattle.ring.specs.Fnv.{fnv, mixed, mixed_all}
+use Rattle.ring.proofs.hash.Given as goal
+
+abbrev pub invariant-loop-i : goal.invariant-loop-i
+invariant-loop-i l = (l.i ≤ length l.bytes) × (fnv l.bytes ≡ mixed_all l.h (drop l.i l.bytes))
+
+abbrev pub decreases-loop-i : goal.decreases-loop-i
+decreases-loop-i l = length l.bytes - l.i
