@@ -46,7 +46,7 @@ unfolding answered standing called called_all Drilled.blank Drilled.drill_calls 
     Tables.relay_table Tables.tablet_table Tables.flat_moves Tables.listed Counted.tally_of Counted.counts Counted.tallied
     Tally.more Tally.counted Scheme.known Scheme.positions Scheme.position Clockwise.clockwise Clockwise.distance
     Clockwise.sooner Entry.numbers Entry.has Entry.beside_of Entry.insert Entry.delete Entry.put Entry.total Entry.count
-    Entry.load Entry.first Entry.up_to Order.queued Order.order Rule.full Rule.has_room_lem Rule.seat Rule.seat_all
+    Entry.load Entry.first Entry.up_to Order.queued Order.order Rule.full Rule.has_room Rule.seat Rule.seat_all
     Rule.placement Rule.rising Rule.limits_fit Rule.same Rule.is_just Rule.right Refusals.is_done Refusals.first_bar
     Calls.edited Calls.or_nobody Calls.after Calls.moved Calls.moves Calls.ahead_of Calls.full_ahead Calls.passed
     Calls.relay_of Calls.wrong_numbers Calls.refusal Calls.accepted Calls.declined Calls.outcome Drill.replies Drill.drill

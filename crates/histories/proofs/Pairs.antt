@@ -29,6 +29,6 @@ unfolding tables_right Meaning.ring_of Meaning.places Meaning.fit_tables Meaning
     Shape.tablets_used Shape.used Shape.relay_fits Shape.tablet_fits Shape.all Shape.unused Table.relay_places
     Table.relay_number Table.relay_limit Table.relay_whole Table.tablet_places Table.tablet_number Table.tablet_relay
     Table.tablet_whole Entry.numbers Entry.load Entry.count Entry.first Rule.right Rule.rising Rule.limits_fit Rule.is_just
-    Rule.same Rule.placement Rule.seat_all Rule.seat Rule.has_room_lem Order.order Order.queued Clockwise.sooner
+    Rule.same Rule.placement Rule.seat_all Rule.seat Rule.has_room Order.order Order.queued Clockwise.sooner
     Clockwise.distance Clockwise.clockwise Scheme.positions Scheme.position
 one_number = refl

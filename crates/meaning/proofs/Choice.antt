@@ -38,7 +38,7 @@ module _ (position room : List ℕ) (t : ℕ) where
   record Nearest (n least : ℕ) : Type 0 where
     pub at : ℕ
     pub below : at < n
-    pub has_room_lem : 0 < get_or room at 0
+    pub has_room : 0 < get_or room at 0
     pub is : least ≡ key_from t (get_or position at 0) at
 
   nearest : (n : ℕ) → least_key position room t n < nobody → Nearest n (least_key position room t n)
@@ -53,7 +53,7 @@ module _ (position room : List ℕ) (t : ℕ) where
       record {
         at = n;
         below = omega arith;
-        has_room_lem = k;
+        has_room = k;
         is = omega
             (arith, ltb-true b a s, key_open position room t n k);
       })
@@ -63,7 +63,7 @@ module _ (position room : List ℕ) (t : ℕ) where
       record {
         at = k.at;
         below = omega (arith, k.below);
-        has_room_lem = k.has_room_lem;
+        has_room = k.has_room;
         is = omega
             (arith, ltb-false b a s, k.is);
       })
@@ -88,7 +88,7 @@ held_total (e ∷ es) q =
 -- place c is one of n relays, has room, and has the number that the rule chooses for tablet t
 pub record First (p : Positions) (rs room : List ℕ) (n t c : ℕ) : Type 0 where
   pub below : c < n
-  pub has_room_lem : 0 < get_or room c 0
+  pub has_room : 0 < get_or room c 0
   pub is : relay_number rs c ≡ or_zero (choose (key p t) (roomed rs room n))
 
 module _ (p : Positions) (rs : List ℕ) (n : ℕ) (few : n ≤ most_relays) (a : Ascending (relay_number rs) n) (room : List ℕ)
@@ -143,7 +143,7 @@ module _ (p : Positions) (rs : List ℕ) (n : ℕ) (few : n ≤ most_relays) (a 
   unfolding roomed
   place_best k =
       record {
-        room = omega (arith, held_places room_at a k.at k.below, k.has_room_lem);
+        room = omega (arith, held_places room_at a k.at k.below, k.has_room);
         least = λ q h.
             let o : Open q = open_at q h in
             rw (← o.number) ((key_order p rs n few a t k.at o.at k.below o.below).le.0
@@ -161,7 +161,7 @@ module _ (p : Positions) (rs : List ℕ) (n : ℕ) (few : n ≤ most_relays) (a 
       rw (nearest_first position room from n few k)
       (record {
         below = k.below;
-        has_room_lem = k.has_room_lem;
+        has_room = k.has_room;
         is = best_one (key p t) (roomed rs room n) (relay_number rs k.at)
             (or_zero (choose (key p t) (roomed rs room n)))
             (λ r q x y. key_apart p t r q (small r x) (small q y)) b

@@ -76,13 +76,13 @@ module _ (p : Positions) (rs ts : List ℕ) (n : ℕ) (few : n ≤ most_relays) 
 
     here : 0 < held (open-now k) (relay_number rs c)
     unfolding roomed
-    here = omega (arith, held_places (λ i. get_or (room_after p rs ts n k) i 0) a c first.below, first.has_room_lem)
+    here = omega (arith, held_places (λ i. get_or (room_after p rs ts n k) i 0) a c first.below, first.has_room)
 
     after : less (relay_number rs c) (open-now k) ≡ open-now (suc k)
     unfolding roomed room_after relay_for
     after =
         less_places n a (λ i. get_or (room_after p rs ts n k) i 0) (λ i. get_or (room_after p rs ts n (suc k)) i 0) c
-        first.has_room_lem
+        first.has_room
         (record {
           below = first.below;
           here = less_here (room_after p rs ts n k) c;

@@ -21,7 +21,7 @@ use Rattle.rule.specs.declared.Move.{Move}
 use Rattle.rule.specs.declared.Call.TheVariants.{Enrol}
 use Rattle.rule.specs.Entry.{Entry, entry, numbers, has, insert, total, load, first, up_to}
 use Rattle.rule.specs.Order.{order}
-use Rattle.rule.specs.Rule.{Ring, has_room_lem}
+use Rattle.rule.specs.Rule.{Ring, has_room}
 use Rattle.rule.specs.Refusals.{first_bar}
 use Rattle.rule.specs.Calls.{move, wrong_numbers, edited, moves, relay_of, passed}
 use Rattle.rule.specs.Calls as Calls
@@ -194,10 +194,10 @@ module _ {s : ℕ} {rs ts : List ℕ} {n m : ℕ} {v : Survey} (b : Start s rs t
       d = steps_to n h stop
 
       -- a relay of the round has room exactly where its slot has
-      room_slot : (i : ℕ) → i < n → has_room_lem (tablets_in ts m)
+      room_slot : (i : ℕ) → i < n → has_room (tablets_in ts m)
           (entry (round_number rs keys n h i) (round_limit rs keys n h i)) ≡ ltb 0
           (slot_room keys room (slot_at n h i))
-      unfolding has_room_lem round_number round_limit slot_room
+      unfolding has_room round_number round_limit slot_room
       room_slot i c =
           let j : ℕ = slot_relay keys (slot_at n h i) in
           let inside : j < n = b.surveyed.ordered.holds.relay (slot_at n h i) (slot_inside n h in_ring i c) in
@@ -209,7 +209,7 @@ module _ {s : ℕ} {rs ts : List ℕ} {n m : ℕ} {v : Survey} (b : Start s rs t
           (λ s. s ∙ sym (le-ltb 0 (get_or room j 0)
           (omega (arith, ltb-false (load (tablets_in ts m) (relay_number rs j)) (relay_limit rs j) s))))
 
-      none_before : (i : ℕ) → i < d → has_room_lem (tablets_in ts m)
+      none_before : (i : ℕ) → i < d → has_room (tablets_in ts m)
           (entry (round_number rs keys n h i) (round_limit rs keys n h i)) ≡ false
       none_before i c =
           let few : d < n = steps_inside n h in_ring stop stop_inside in
@@ -228,7 +228,7 @@ module _ {s : ℕ} {rs ts : List ℕ} {n m : ℕ} {v : Survey} (b : Start s rs t
       at_stop : slot_at n h d ≡ stop
       at_stop = slot_steps n h in_ring stop stop_inside
 
-      room_there : has_room_lem (tablets_in ts m) (entry (round_number rs keys n h d) (round_limit rs keys n h d)) ≡ true
+      room_there : has_room (tablets_in ts m) (entry (round_number rs keys n h d) (round_limit rs keys n h d)) ≡ true
       room_there =
           room_slot d (steps_inside n h in_ring stop stop_inside)
           ∙ ap (λ (z : ℕ). ltb 0 (slot_room keys room z)) at_stop ∙ lt-ltb 0 (slot_room keys room stop) stop_room
@@ -241,16 +241,16 @@ module _ {s : ℕ} {rs ts : List ℕ} {n m : ℕ} {v : Survey} (b : Start s rs t
         abbrev f : Entry
         f = entry (round_number rs keys n h d) (round_limit rs keys n h d)
 
-        the_first : first (has_room_lem (tablets_in ts m)) (order p x (relays_in rs n)) ≡ some f
+        the_first : first (has_room (tablets_in ts m)) (order p x (relays_in rs n)) ≡ some f
         the_first =
-            ap (first (has_room_lem (tablets_in ts m))) the_order
-            ∙ first_places (has_room_lem (tablets_in ts m)) (round_number rs keys n h) (round_limit rs keys n h) n d
+            ap (first (has_room (tablets_in ts m))) the_order
+            ∙ first_places (has_room (tablets_in ts m)) (round_number rs keys n h) (round_limit rs keys n h) n d
             (steps_inside n h in_ring stop stop_inside) none_before room_there
 
-        the_fulls : up_to (has_room_lem (tablets_in ts m)) (order p x (relays_in rs n)) ≡ round rs keys n h d
+        the_fulls : up_to (has_room (tablets_in ts m)) (order p x (relays_in rs n)) ≡ round rs keys n h d
         the_fulls =
-            ap (up_to (has_room_lem (tablets_in ts m))) the_order
-            ∙ up_to_places (has_room_lem (tablets_in ts m)) (round_number rs keys n h) (round_limit rs keys n h) n d
+            ap (up_to (has_room (tablets_in ts m))) the_order
+            ∙ up_to_places (has_room (tablets_in ts m)) (round_number rs keys n h) (round_limit rs keys n h) n d
             (steps_inside n h in_ring stop stop_inside) none_before room_there
 
         module _ (Some-number : 0 < x) (new : has (tablets_in ts m) x ≡ false) where
@@ -261,7 +261,7 @@ module _ {s : ℕ} {rs ts : List ℕ} {n m : ℕ} {v : Survey} (b : Start s rs t
           many = omega (arith, length_places (tablet_number ts) (tablet_relay ts) m, room_left)
 
           abbrev chain : Chain (tablets_in ts m) x
-              (seats (turn (tablets_in ts m) (newcomer x) (up_to (has_room_lem (tablets_in ts m)) (order p x (relays_in rs n))))
+              (seats (turn (tablets_in ts m) (newcomer x) (up_to (has_room (tablets_in ts m)) (order p x (relays_in rs n))))
               f.number)
           chain = enrol_chain p ring right t Some-number not_in many f the_first
 

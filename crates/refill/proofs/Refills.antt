@@ -106,7 +106,7 @@ module _ {p : Positions} {rs ts : List ℕ} {n m j : ℕ} {keys home room next r
   opens =
       let s : Slot keys n (relay_for p rs ts n j) = t.filling.ordered.holds.every (relay_for p rs ts n j)
       first.below in
-      leads.opens s.slot s.below (rw (s.is, t.filling.left) first.has_room_lem)
+      leads.opens s.slot s.below (rw (s.is, t.filling.left) first.has_room)
 
   some_relay : 0 < n
   some_relay = omega (arith, first.below)

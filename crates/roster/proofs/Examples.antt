@@ -72,7 +72,7 @@ pub reading_examples :
     ∷ []
 unfolding Fnv.four_bytes Fnv.mixed Fnv.mixed_all Fnv.fnv Scheme.known Scheme.position Scheme.positions Clockwise.clockwise
     Clockwise.distance Clockwise.sooner Entry.numbers Entry.count Entry.load Entry.first Order.queued Order.order
-    Rule.has_room_lem Rule.seat Rule.seat_all Rule.placement Rule.rising Rule.limits_fit Rule.same Rule.is_just Rule.right
+    Rule.has_room Rule.seat Rule.seat_all Rule.placement Rule.rising Rule.limits_fit Rule.same Rule.is_just Rule.right
     Refusals.is_done Refusals.first_bar Table.relay_places Table.relay_whole Table.tablet_places Table.tablet_whole
     Shape.relay_fits Shape.tablet_fits Meaning.places Tables.flat Tables.filled Tables.relay_table Tables.tablet_table
     Numbers.number_at Roster.field Roster.shaped Roster.shape_right Roster.block Roster.roster_ring Content.numbered

@@ -17,7 +17,7 @@ use Rattle.ring.proofs.Tests.{split}
 use Rattle.ring.proofs.Order.{key_apart}
 use Rattle.rule.specs.Entry.{Entry, numbers, insert, delete, total, load, first}
 use Rattle.rule.specs.Order.{order}
-use Rattle.rule.specs.Rule.{Ring, has_room_lem, placement}
+use Rattle.rule.specs.Rule.{Ring, has_room, placement}
 use Rattle.rule.specs.Walks.{sat_down, greatest, stops, behind, walk, enrolled}
 use Rattle.rule.specs.Rooms.{held, fill, choose, or_zero}
 use Rattle.rule.specs.Stability.{Rising, In, Sits, lower, Fair}
@@ -95,7 +95,7 @@ module _ (p : Positions) (rs : List Entry) (t : Table rs) (p₀ : List Entry) (x
                 rw v.2 at l;
           }
 
-      module _ (shut : has_room_lem es e ≡ false) where
+      module _ (shut : has_room es e ≡ false) where
         abbrev g : ℕ
         g = greatest es e.number
 
@@ -154,9 +154,9 @@ module _ (p : Positions) (rs : List Entry) (t : Table rs) (p₀ : List Entry) (x
 
   module _ (up₀ : Rising 0 (numbers (insert x 0 p₀))) where
     settled : (es : List Entry) (w : ℕ) (ahead : List Entry) (steps : ℕ) → Walking steps es w ahead → (e : Entry)
-        → first (stops es w) ahead ≡ some e → has_room_lem es e ≡ true
+        → first (stops es w) ahead ≡ some e → has_room es e ≡ true
         → insert w e.number es ≡ goal
-    unfolding has_room_lem
+    unfolding has_room
     settled es w ahead steps i e h open-there =
         walk_settle (key p) rs p₀ x (λ r. r < 2 ^ 32) (λ n r q. key_apart p n r q) (held_small p rs t) es w
         i.walking up₀ e.number (stop_fair es w ahead steps i e h)
@@ -170,7 +170,7 @@ module _ (p : Positions) (rs : List Entry) (t : Table rs) (p₀ : List Entry) (x
     walk_ends (suc k) es w ahead i =
         let s : (e : Entry) × (first (stops es w) ahead ≡ some e) = stop_some es w ahead (suc k) i in
         let e : Entry = s.0 in
-        split (has_room_lem es e)
+        split (has_room es e)
         (λ o. rw (s.1, o, walk) (settled es w ahead (suc k) i e s.1 o, λ low l. (l, tt)))
         (λ o.
         let g : ℕ = greatest es e.number in

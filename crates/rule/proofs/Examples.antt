@@ -57,14 +57,14 @@ pub stretch_examples : map (stretch_of (3 ∷ 5 ∷ 12 ∷ 31 ∷ 99 ∷ [])) (1
     ∷ from_to 3 1 ∷ from_to 0 0 ∷ []
 unfolding Sheet.stretch Sheet.sheet_fits Sheet.begins Sheet.sheet Sheet.sheet_from Sheet.tablets_of Drill.drill_lent
     Entry.keep Entry.numbers Entry.has Entry.load Entry.loads Entry.count Entry.first Rule.right Rule.rising
-    Rule.limits_fit Rule.is_just Rule.same Rule.placement Rule.seat_all Rule.seat Rule.has_room_lem Order.order Order.queued
+    Rule.limits_fit Rule.is_just Rule.same Rule.placement Rule.seat_all Rule.seat Rule.has_room Order.order Order.queued
     Clockwise.sooner Clockwise.distance Clockwise.clockwise Scheme.positions Scheme.position
 stretch_examples = refl
 
 pub other_sheet : stretch_of (3 ∷ 12 ∷ 5 ∷ 31 ∷ []) 20 ≡ from_to 0 0
 unfolding Sheet.stretch Sheet.sheet_fits Sheet.begins Sheet.sheet Sheet.sheet_from Sheet.tablets_of Drill.drill_lent
     Entry.keep Entry.numbers Entry.has Entry.load Entry.loads Entry.count Entry.first Rule.right Rule.rising
-    Rule.limits_fit Rule.is_just Rule.same Rule.placement Rule.seat_all Rule.seat Rule.has_room_lem Order.order Order.queued
+    Rule.limits_fit Rule.is_just Rule.same Rule.placement Rule.seat_all Rule.seat Rule.has_room Order.order Order.queued
     Clockwise.sooner Clockwise.distance Clockwise.clockwise Scheme.positions Scheme.position
 other_sheet = refl
 
@@ -74,7 +74,7 @@ other_sheet = refl
 pub walk_example : Walks.enrolled (Scheme.positions 0) four.relays (entry 3 10 ∷ entry 5 20 ∷ entry 31 20 ∷ []) 12
     ≡ record { tablets = four.tablets; chain = entry 12 20 ∷ entry 31 30 ∷ [] }
 unfolding Walks.enrolled Walks.walk Walks.sat_down Walks.greatest Walks.stops Walks.behind Entry.insert Entry.delete
-    Entry.first Entry.load Entry.count Rule.full Rule.has_room_lem Order.order Order.queued Clockwise.sooner
+    Entry.first Entry.load Entry.count Rule.full Rule.has_room Order.order Order.queued Clockwise.sooner
     Clockwise.distance Clockwise.clockwise Scheme.positions Scheme.position
 walk_example = refl
 

@@ -17,7 +17,7 @@ use Rattle.ring.proofs.Tests.{split, true_false}
 use Rattle.ring.proofs.Order.{sooner_key, key_apart}
 use Rattle.rule.specs.Entry.{Entry, entry, has, beside_of, load, up_to}
 use Rattle.rule.specs.Order.{order}
-use Rattle.rule.specs.Rule.{Ring, full, has_room_lem}
+use Rattle.rule.specs.Rule.{Ring, full, has_room}
 use Rattle.rule.specs.Walks.{had_passed}
 use Rattle.rule.specs.Facts.{Among, Sorted, Right}
 use Rattle.rule.proofs.Orders.{order_in, in_order, order_sorted}
@@ -32,8 +32,8 @@ module _ (p : Positions) (g : Ring) (r : Right p g) where
   within : (e : Entry) → Among e g.relays → load g.tablets e.number ≤ e.beside
   within e i = omega (arith, right_loads p g r e.number, among_held g.relays 0 r.relays.up e i)
 
-  pub full_or_room : (e : Entry) → Among e g.relays → full g.tablets e ≡ not (has_room_lem g.tablets e)
-  unfolding full has_room_lem
+  pub full_or_room : (e : Entry) → Among e g.relays → full g.tablets e ≡ not (has_room g.tablets e)
+  unfolding full has_room
   full_or_room e i =
       split (ltb (load g.tablets e.number) e.beside)
       (λ s. rw s

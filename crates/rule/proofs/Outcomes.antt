@@ -19,7 +19,7 @@ use Rattle.rule.specs.declared.Move.{Move}
 use Rattle.rule.specs.declared.Call.TheVariants.{Enrol, Withdraw, Find}
 use Rattle.rule.specs.Entry.{Entry, numbers, has, beside_of, insert, delete, total, count, load, first, up_to}
 use Rattle.rule.specs.Order.{order}
-use Rattle.rule.specs.Rule.{Ring, full, has_room_lem, seat}
+use Rattle.rule.specs.Rule.{Ring, full, has_room, seat}
 use Rattle.rule.specs.Calls.{edited, after, moved, moves, full_ahead, passed, relay_of}
 use Rattle.rule.specs.Sweeps.{seated, seats, turn, newcomer, holes}
 use Rattle.rule.specs.Stability.{Rising, In}
@@ -45,15 +45,15 @@ module _ (p : Positions) (g : Ring) (r : Right p g) (t : TabletNumber) (Some-num
 
   -- the full relays ahead of the first with room, and the turn over them
   abbrev pub fulls : List Entry
-  fulls = up_to (has_room_lem g.tablets) (order p x g.relays)
+  fulls = up_to (has_room g.tablets) (order p x g.relays)
 
   abbrev pub chainTo : Entry → List Move
   chainTo f = seats (turn g.tablets (newcomer x) fulls) f.number
 
-  module _ (f : Entry) (h : first (has_room_lem g.tablets) (order p x g.relays) ≡ some f) where
+  module _ (f : Entry) (h : first (has_room g.tablets) (order p x g.relays) ≡ some f) where
     pub enrol_chain : Chain g.tablets x (chainTo f)
     enrol_chain =
-        turn_chain g.tablets x (has_room_lem g.tablets) (order p x g.relays) (newcomer x) f
+        turn_chain g.tablets x (has_room g.tablets) (order p x g.relays) (newcomer x) f
         (inl (unfold newcomer in (record { walker = refl; from = refl; chain = refl })))
         (distinct_order p x g.relays (distinct_rising g.relays 0 r.relays.up)) h
 
@@ -91,19 +91,19 @@ module _ (p : Positions) (g : Ring) (r : Right p g) (t : TabletNumber) (Some-num
 
   -- every relay ahead of the first with room is full
   ahead_full : (l : List Entry) → ((e : Entry) → Among e l → Among e g.relays)
-      → count (full g.tablets) (up_to (has_room_lem g.tablets) l) ≡ length (up_to (has_room_lem g.tablets) l)
+      → count (full g.tablets) (up_to (has_room g.tablets) l) ≡ length (up_to (has_room g.tablets) l)
   ahead_full [] inside = unfold count up_to in refl
   ahead_full (e ∷ l) inside =
-      split (has_room_lem g.tablets e)
-      (λ o. ap (count (full g.tablets)) (up_to_stop (has_room_lem g.tablets) e l o) ∙ unfold count in refl
-      ∙ ap length (sym (up_to_stop (has_room_lem g.tablets) e l o)))
-      (λ o. ap (count (full g.tablets)) (up_to_go (has_room_lem g.tablets) e l o)
-      ∙ one_more e (up_to (has_room_lem g.tablets) l) (shut e (inside e (inl refl)) o)
+      split (has_room g.tablets e)
+      (λ o. ap (count (full g.tablets)) (up_to_stop (has_room g.tablets) e l o) ∙ unfold count in refl
+      ∙ ap length (sym (up_to_stop (has_room g.tablets) e l o)))
+      (λ o. ap (count (full g.tablets)) (up_to_go (has_room g.tablets) e l o)
+      ∙ one_more e (up_to (has_room g.tablets) l) (shut e (inside e (inl refl)) o)
       (ahead_full l (λ z j. inside z (inr j)))
-      ∙ ap length (sym (up_to_go (has_room_lem g.tablets) e l o)))
+      ∙ ap length (sym (up_to_go (has_room g.tablets) e l o)))
     where
-      shut : (e : Entry) → Among e g.relays → has_room_lem g.tablets e ≡ false → full g.tablets e ≡ true
-      shut e i o = unfold full has_room_lem in (eq-eqb (load g.tablets e.number) e.beside
+      shut : (e : Entry) → Among e g.relays → has_room g.tablets e ≡ false → full g.tablets e ≡ true
+      shut e i o = unfold full has_room in (eq-eqb (load g.tablets e.number) e.beside
           (omega (
             arith,
             ltb-false (load g.tablets e.number) e.beside o,
@@ -116,7 +116,7 @@ module _ (p : Positions) (g : Ring) (r : Right p g) (t : TabletNumber) (Some-num
           → count (full g.tablets) (e ∷ l) ≡ length (e ∷ l)
       one_more e l f h = unfold count in (rw f (omega arith))
 
-  pub enrol_passed : passed p g (Enrol t) ≡ length (up_to (has_room_lem g.tablets) (order p t.0 g.relays))
+  pub enrol_passed : passed p g (Enrol t) ≡ length (up_to (has_room g.tablets) (order p t.0 g.relays))
   unfolding passed full_ahead
   enrol_passed = ahead_full (order p x g.relays) (λ e i. order_in p x g.relays e i)
 

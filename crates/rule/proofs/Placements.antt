@@ -19,7 +19,7 @@ use Rattle.ring.proofs.Tests.{split, true_false}
 use Rattle.ring.proofs.Order.{key_apart}
 use Rattle.rule.specs.Entry.{Entry, entry, numbers, total, count, load}
 use Rattle.rule.specs.Order.{order}
-use Rattle.rule.specs.Rule.{has_room_lem, seat, seat_all, placement}
+use Rattle.rule.specs.Rule.{has_room, seat, seat_all, placement}
 use Rattle.rule.specs.Rooms.{held, rooms, choose, or_zero, less, fill}
 use Rattle.rule.specs.Stability.{Rising}
 use Rattle.rule.specs.Facts.{Among, Small}
@@ -129,8 +129,8 @@ rooms_more (r ∷ rs) low up ts t c h =
 -- ---- the seat
 
 module _ (p : Positions) (rs : List Entry) (low : ℕ) (up : Rising low (numbers rs)) (small : Small rs) where
-  room_is : (ts : List Entry) (e : Entry) → Among e rs → has_room_lem ts e ≡ true → 0 < held (rooms rs ts) e.number
-  unfolding has_room_lem
+  room_is : (ts : List Entry) (e : Entry) → Among e rs → has_room ts e ≡ true → 0 < held (rooms rs ts) e.number
+  unfolding has_room
   room_is ts e i h =
       omega (
         arith,
@@ -140,8 +140,8 @@ module _ (p : Positions) (rs : List Entry) (low : ℕ) (up : Rising low (numbers
         among_held rs low up e i,
       )
 
-  is_room : (ts : List Entry) (e : Entry) → Among e rs → 0 < held (rooms rs ts) e.number → has_room_lem ts e ≡ true
-  unfolding has_room_lem
+  is_room : (ts : List Entry) (e : Entry) → Among e rs → 0 < held (rooms rs ts) e.number → has_room ts e ≡ true
+  unfolding has_room
   is_room ts e i h =
       lt-ltb (load ts e.number) e.beside
       (omega (arith, held_rooms rs low up ts e.number, among_held rs low up e i))
@@ -153,13 +153,13 @@ module _ (p : Positions) (rs : List Entry) (low : ℕ) (up : Rising low (numbers
       → Best (key p t) (rooms rs ts) e.number
   unfolding seat
   seat_best ts t e h =
-      let f : Among e (order p t rs) × (has_room_lem ts e ≡ true) = first_some (has_room_lem ts) (order p t rs) e h in
+      let f : Among e (order p t rs) × (has_room ts e ≡ true) = first_some (has_room ts) (order p t rs) e h in
       record {
         room = room_is ts e (order_in p t rs e f.0) f.1;
         least = λ q w.
             let x : (e : Entry) × Among e rs × (e.number ≡ q) = room_there ts q w in
             let l : key p t e.number ≤ key p t x.0.number =
-            first_least (has_room_lem ts) (key p t) (order p t rs) (order_sorted p t rs small) e h x.0
+            first_least (has_room ts) (key p t) (order p t rs) (order_sorted p t rs small) e h x.0
             (in_order p t rs x.0 x.1)
             (is_room ts x.0 x.1 (rw x.2 w)) in
             rw x.2 at l;
@@ -173,7 +173,7 @@ module _ (p : Positions) (rs : List Entry) (low : ℕ) (up : Rising low (numbers
       (λ s.
       let v : (q : ℕ) × (0 < held (rooms rs ts) q) = total_some (rooms rs ts) (ltb-true 0 (total (rooms rs ts)) s) in
       let x : (e : Entry) × Among e rs × (e.number ≡ v.0) = room_there ts v.0 v.1 in
-      let f : has_room_lem ts x.0 ≡ false = first_none (has_room_lem ts) (order p t rs) h x.0
+      let f : has_room ts x.0 ≡ false = first_none (has_room ts) (order p t rs) h x.0
       (in_order p t rs x.0 x.1) in
       absurd (true_false (sym (is_room ts x.0 x.1 (rw x.2 v.1)) ∙ f)))
       (λ s. omega (arith, ltb-false 0 (total (rooms rs ts)) s))

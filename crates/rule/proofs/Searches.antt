@@ -15,7 +15,7 @@ use borrow.Author.Tests.{ltb-true, ltb-false, eqb-true, eqb-false, eq-eqb, lt-lt
 use lib.Dec.{eqb, ltb}
 use Rattle.ring.proofs.Tests.{split, and_left, and_right, true_false}
 use Rattle.rule.specs.Entry.{Entry, entry, numbers, load}
-use Rattle.rule.specs.Rule.{full, has_room_lem}
+use Rattle.rule.specs.Rule.{full, has_room}
 use Rattle.rule.specs.Walks.{greatest, stops, behind, lower_of, lowest}
 use Rattle.rule.specs.Stability.{In, Sits, lower}
 use Rattle.rule.specs.Facts.{Among, Sorted}
@@ -66,7 +66,7 @@ greatest_sits (e ∷ es) r h =
 
 module _ (es : List Entry) (w : ℕ) (x : Entry) where
   pub stops_lower : stops es w x ≡ true → lower es x.number w < x.beside
-  unfolding stops has_room_lem full
+  unfolding stops has_room full
   stops_lower h =
       split (ltb (load es x.number) x.beside)
       (λ s. omega (arith, ltb-true (load es x.number) x.beside s, lower_load es x.number w))
@@ -84,7 +84,7 @@ module _ (es : List Entry) (w : ℕ) (x : Entry) where
 
   pub lower_stops : load es x.number ≤ x.beside → (In w (numbers es) → ⊥) → lower es x.number w < x.beside
       → stops es w x ≡ true
-  unfolding stops has_room_lem full
+  unfolding stops has_room full
   lower_stops l out h =
       split (ltb (load es x.number) x.beside)
       (λ s. rw s)
@@ -100,7 +100,7 @@ module _ (es : List Entry) (w : ℕ) (x : Entry) where
       ))
 
   -- a walker that stops where there is no room stops at a full relay with a greater number
-  pub stops_full : stops es w x ≡ true → has_room_lem es x ≡ false → (load es x.number ≡ x.beside)
+  pub stops_full : stops es w x ≡ true → has_room es x ≡ false → (load es x.number ≡ x.beside)
       × (w < greatest es x.number)
   unfolding stops full
   stops_full h s =

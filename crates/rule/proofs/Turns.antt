@@ -18,7 +18,7 @@ use Rattle.ring.proofs.Order.{key_apart, rotation}
 use Rattle.rule.specs.declared.Move.{Move}
 use Rattle.rule.specs.Entry.{Entry, numbers, insert, delete, put, load, first, up_to}
 use Rattle.rule.specs.Order.{queued, order}
-use Rattle.rule.specs.Rule.{Ring, has_room_lem}
+use Rattle.rule.specs.Rule.{Ring, has_room}
 use Rattle.rule.specs.Calls.{move}
 use Rattle.rule.specs.Walks.{greatest}
 use Rattle.rule.specs.Sweeps.{seated, seats, Turn, turn_at, turn, newcomer}
@@ -269,9 +269,9 @@ module _ (p : Positions) (rs : List Entry) (t : Table rs) (ts : List Entry) (up-
 
   module _ (up₀ : Rising 0 (numbers (insert x 0 ts))) where
     -- the walker sits down at the first relay with room
-    settled : (q es : List Entry) (w : ℕ) (c : Entry) (cs : List Entry) → Turning q es w (c ∷ cs) → has_room_lem ts c ≡ true
+    settled : (q es : List Entry) (w : ℕ) (c : Entry) (cs : List Entry) → Turning q es w (c ∷ cs) → has_room ts c ≡ true
         → put w c.number q ≡ fill (key p) rs (numbers (insert x 0 ts))
-    unfolding has_room_lem
+    unfolding has_room
     settled q es w c cs i h =
         let r : load ts c.number < c.beside = ltb-true (load ts c.number) c.beside h in
         let there : held rs c.number ≡ c.beside = among_held rs 0 t.up c (i.inside c (inl refl)) in
@@ -286,34 +286,34 @@ module _ (p : Positions) (rs : List Entry) (t : Table rs) (ts : List Entry) (up-
 
     turn_ends : (ahead : List Entry) (q es : List Entry) (s : Turn) (f : Entry) → Turning q es s.walker ahead
         → Distinct ahead → q ≡ seated s.chain (insert x 0 ts)
-        → first (has_room_lem ts) ahead ≡ some f → ended f s (up_to (has_room_lem ts) ahead)
+        → first (has_room ts) ahead ≡ some f → ended f s (up_to (has_room ts) ahead)
         ≡ fill (key p) rs (numbers (insert x 0 ts))
     unfolding first
     turn_ends [] q es s f i d e h = absurd (option_apart f h)
     turn_ends (c ∷ cs) q es s f i d e h =
-        split (has_room_lem ts c)
+        split (has_room ts c)
         (λ o.
         let u : c ≡ f = option_some c f (rw (o, first) at h) in
-        ap (ended f s) (up_to_stop (has_room_lem ts) c cs o) ∙ ap (λ (z : Entry). ended z s []) (sym u) ∙ ended_here c
+        ap (ended f s) (up_to_stop (has_room ts) c cs o) ∙ ap (λ (z : Entry). ended z s []) (sym u) ∙ ended_here c
         ∙ settled q es s.walker c cs i o)
         (λ o.
-        let h' : first (has_room_lem ts) cs ≡ some f = rw (o, first) at h in
+        let h' : first (has_room ts) cs ≡ some f = rw (o, first) at h in
         let full : load ts c.number ≡ held rs c.number = no_room c (i.inside c (inl refl)) o in
-        ap (ended f s) (up_to_go (has_room_lem ts) c cs o) ∙ ap (λ (z : Turn). seated (seats z f.number) (insert x 0 ts))
-        (turn_more ts s c (up_to (has_room_lem ts) cs))
+        ap (ended f s) (up_to_go (has_room ts) c cs o) ∙ ap (λ (z : Turn). seated (seats z f.number) (insert x 0 ts))
+        (turn_more ts s c (up_to (has_room ts) cs))
         ∙ split (ltb s.walker (greatest ts c.number))
-        (λ b. ap (λ (z : Turn). ended f z (up_to (has_room_lem ts) cs)) (turn_at_yes ts s c b)
+        (λ b. ap (λ (z : Turn). ended f z (up_to (has_room ts) cs)) (turn_at_yes ts s c b)
         ∙ turn_ends cs (put s.walker c.number q)
         (insert s.walker c.number (delete (greatest ts c.number) es)) (displaced_by ts s c) f
         (displaced q es s.walker c cs i full (ltb-true s.walker (greatest ts c.number) b) d.0) d.1
         (sat_down_lem e) h')
-        (λ b. ap (λ (z : Turn). ended f z (up_to (has_room_lem ts) cs)) (turn_at_no ts s c b)
+        (λ b. ap (λ (z : Turn). ended f z (up_to (has_room ts) cs)) (turn_at_no ts s c b)
         ∙ turn_ends cs q es s f (passed q es s.walker c cs i full
         (ltb-false s.walker (greatest ts c.number) b)) d.1 e h'))
       where
-        no_room : (c : Entry) → Among c rs → has_room_lem ts c ≡ false → load ts c.number ≡ held rs c.number
+        no_room : (c : Entry) → Among c rs → has_room ts c ≡ false → load ts c.number ≡ held rs c.number
         no_room c j o =
-            unfold has_room_lem in (omega (
+            unfold has_room in (omega (
               arith,
               ltb-false (load ts c.number) c.beside o,
               loads-ts
@@ -382,8 +382,8 @@ module _ (p : Positions) (g : Ring) (r : Right p g) (x : ℕ) (Some-number : 0 <
       }
 
   -- the turn over the relays ahead of the first with room
-  pub turn_placement : (f : Entry) → first (has_room_lem g.tablets) (order p x g.relays) ≡ some f
-      → seated (seats (turn g.tablets (newcomer x) (up_to (has_room_lem g.tablets) (order p x g.relays)))
+  pub turn_placement : (f : Entry) → first (has_room g.tablets) (order p x g.relays) ≡ some f
+      → seated (seats (turn g.tablets (newcomer x) (up_to (has_room g.tablets) (order p x g.relays)))
       f.number) (insert x 0 g.tablets)
       ≡ fill (key p) g.relays (numbers (insert x 0 g.tablets))
   unfolding newcomer

@@ -14,7 +14,7 @@ use Rattle.rule.specs.declared.Reply.{Reply}
 use Rattle.rule.specs.declared.Move.{Move}
 use Rattle.rule.specs.Entry.{Entry, numbers, has, beside_of, insert, delete, put, total, count, up_to}
 use Rattle.rule.specs.Order.{order}
-use Rattle.rule.specs.Rule.{Ring, full, has_room_lem, placement, right}
+use Rattle.rule.specs.Rule.{Ring, full, has_room, placement, right}
 use Rattle.rule.specs.Refusals.{is_done, replied, bare_reply, Bar, bar, first_bar}
 
 -- ---- what is lent, besides the entries
@@ -82,7 +82,7 @@ ahead_of p g t = length (up_to (λ e. eqb e.number (beside_of g.tablets t)) (ord
 
 -- the full relays ahead of the first with room
 unfoldable pub full_ahead : Positions → Ring → ℕ → ℕ
-full_ahead p g t = count (full g.tablets) (up_to (has_room_lem g.tablets) (order p t g.relays))
+full_ahead p g t = count (full g.tablets) (up_to (has_room g.tablets) (order p t g.relays))
 
 unfoldable pub passed : Positions → Ring → Call → ℕ
 passed p g (Add r limit) = 0

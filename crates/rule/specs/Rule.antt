@@ -12,12 +12,12 @@ unfoldable pub full : List Entry → Entry → Bool
 full tablets r = eqb (load tablets r.number) r.beside
 
 -- its load is below its limit
-unfoldable pub has_room_lem : List Entry → Entry → Bool
-has_room_lem tablets r = ltb (load tablets r.number) r.beside
+unfoldable pub has_room : List Entry → Entry → Bool
+has_room tablets r = ltb (load tablets r.number) r.beside
 
 -- the first relay in the clockwise order of t that has room, once these tablets are seated
 unfoldable pub seat : Positions → List Entry → List Entry → ℕ → Option Entry
-seat p relays seated t = first (has_room_lem seated) (order p t relays)
+seat p relays seated t = first (has_room seated) (order p t relays)
 
 -- one tablet after the other
 unfoldable pub seat_all : Positions → List Entry → List Entry → List ℕ → Option (List Entry)

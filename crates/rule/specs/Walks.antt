@@ -6,7 +6,7 @@ use Rattle.ring.specs.Scheme.{Positions}
 use Rattle.ring.specs.Clockwise.{sooner}
 use Rattle.rule.specs.Entry.{Entry, entry, insert, delete, beside_of, first}
 use Rattle.rule.specs.Order.{order}
-use Rattle.rule.specs.Rule.{full, has_room_lem}
+use Rattle.rule.specs.Rule.{full, has_room}
 
 -- the tablets at the end of a walk, and everybody who sat down on the way, with the relay where
 pub record Walked : Type 0 where
@@ -25,7 +25,7 @@ greatest (e ∷ es) r = elim (eqb e.beside r) [ true ↦ max e.number (greatest 
 
 -- the walker stops at a relay with room, and at a full one that holds a greater number
 unfoldable pub stops : List Entry → ℕ → Entry → Bool
-stops tablets w r = has_room_lem tablets r || (full tablets r && ltb w (greatest tablets r.number))
+stops tablets w r = has_room tablets r || (full tablets r && ltb w (greatest tablets r.number))
 
 -- those behind relay r in a clockwise order
 unfoldable pub behind : ℕ → List Entry → List Entry
@@ -39,7 +39,7 @@ walk zero p relays tablets w ahead = record { tablets = tablets; chain = [] }
 walk (suc steps) p relays tablets w ahead =
     elim (first (stops tablets w) ahead) [
       | none ↦ record { tablets = tablets; chain = [] }
-      | some r ↦ elim (has_room_lem tablets r) [
+      | some r ↦ elim (has_room tablets r) [
         | true ↦ record { tablets = insert w r.number tablets; chain = entry w r.number ∷ [] }
         | false ↦
             let g : ℕ = greatest tablets r.number in

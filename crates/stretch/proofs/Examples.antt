@@ -47,6 +47,6 @@ unfolding stretch_of Sheet.stretch Sheet.sheet_fits Sheet.begins Sheet.sheet She
     Shape.used Shape.relay_fits Shape.tablet_fits Shape.all Shape.unused Table.relay_places Table.relay_number
     Table.relay_limit Table.relay_whole Table.tablet_places Table.tablet_number Table.tablet_relay Table.tablet_whole
     Entry.has Entry.keep Entry.numbers Entry.load Entry.loads Entry.count Entry.first Rule.right Rule.rising
-    Rule.limits_fit Rule.is_just Rule.same Rule.placement Rule.seat_all Rule.seat Rule.has_room_lem Order.order Order.queued
+    Rule.limits_fit Rule.is_just Rule.same Rule.placement Rule.seat_all Rule.seat Rule.has_room Order.order Order.queued
     Clockwise.sooner Clockwise.distance Clockwise.clockwise Scheme.known Scheme.positions Scheme.position
 stretch_examples = (refl, refl)

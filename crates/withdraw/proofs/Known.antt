@@ -95,10 +95,10 @@ module _ {s : ℕ} {rs ts : List ℕ} {n m : ℕ} {v : Survey} (b : Start s rs t
       ∙ sym (passed_steps b j l (get_or v.slot i 0) (slot_within b i h))
       ∙ ap (λ (q : ℕ). had_passed (positions s) q (at j)) (slot_relay_lem b i h)
 
-  has_room : (i : ℕ) → i < m → 0 < slot_room v.keys v.room (get_or v.slot i 0)
+  has_room_lem : (i : ℕ) → i < m → 0 < slot_room v.keys v.room (get_or v.slot i 0)
       → load (tablets_in ts m) (tablet_relay ts i) < held (relays_in rs n) (tablet_relay ts i)
   unfolding slot_room
-  has_room i h o =
+  has_room_lem i h o =
       let k : ℕ = slot_relay v.keys (get_or v.slot i 0) in
       let e : get_or v.room k 0 ≡ relay_limit rs k - load (tablets_in ts m) (relay_number rs k) =
       ap (λ (l : List ℕ). get_or l k 0) b.surveyed.left ∙ right_room rises m (omega arith) k (inside i h) in
@@ -113,7 +113,7 @@ module _ {s : ℕ} {rs ts : List ℕ} {n m : ℕ} {v : Survey} (b : Start s rs t
       record {
         few = rises.tablets_fit.few;
         slots = λ j h. omega (arith, slot_within b j h, rises.relays_fit.few);
-        roomy = λ i j h l o. passed_at_lem i j h l ∙ room_passed (positions s) g right (tablet_relay ts i) (has_room i h o)
+        roomy = λ i j h l o. passed_at_lem i j h l ∙ room_passed (positions s) g right (tablet_relay ts i) (has_room_lem i h o)
             (at j) (there j l);
         shut = λ i j l h p a c e.
             passed_greater (positions s) g right (tablet_relay ts i) (small i h) (at j) (there j (omega arith))

@@ -1,0 +1,12 @@
+-- `holes::holes` meets its contract. The loop's invariant (`Swept`): the places noted are the first of those who move, and place j is the next
+-- to move. Each relay that was left has its last tablet before that of the next, so no more move than there are relays. The measure is what is
+-- left of the tablets. Assumes nothing.
+use Rattle.std.proofs.Common.{◌-◌, refl, arith}
+use Rattle.holes.proofs.Sweeps.{Swept, swept_few, sweep_start, sweep_on, sweep_end}
+use Rattle.holes.proofs.holes.Given as goal
+
+abbrev pub invariant-loop-j : goal.invariant-loop-j
+invariant-loop-j l = Swept l.home l.slot l.m l.at l.places l.count l.j
+
+abbrev pub decreases-loop-j : goal.decreases-loop-j
+decreases-loop-j l = l.m - l.j

@@ -1,0 +1,10 @@
+-- `row::lowest` meets its contract. The invariant: the first k slots have no room. Assumes nothing.
+use Rattle.std.proofs.Common.{◌-◌, arith}
+use Rattle.row.proofs.Leads.{Emptied, emptied_none, emptied_more, leads_none, leads_lowest}
+use Rattle.row.proofs.lowest.Given as goal
+
+abbrev pub invariant-loop-k : goal.invariant-loop-k
+invariant-loop-k l = Emptied l.keys l.room l.k
+
+abbrev pub decreases-loop-k : goal.decreases-loop-k
+decreases-loop-k l = l.n - l.k
