@@ -1,0 +1,33 @@
+-- `chain::walker` meets its contract: the newcomer while nobody sat down, else the tablet whose place was kept last.
+-- Assumes nothing.
+use mathlib.Core.Path.{◌≡◌, refl, ap, ◌∙◌}
+use mathlib.Core.List.{List}
+use Prim.Native.Nat.{ℕ, zero, suc}
+use native.Mathlib.Omega.{arith}
+use lib.ListN.{get_or}
+use Rattle.tables.specs.Table.{tablet_number}
+use Rattle.chain.specs.Chain.{name_at}
+use borrow.Author.Rules.{rules}
+use Rattle.chain.proofs.walker.Goals as goal
+
+none : (x : ℕ) (ts place : List ℕ) (c : ℕ) → c ≡ 0 → x ≡ name_at x ts place c
+unfolding name_at
+none x ts place zero e = refl
+none x ts place (suc c) e = absurd (omega arith)
+
+some_one : (x : ℕ) (ts place : List ℕ) (c : ℕ) → (c ≡ 0 → ⊥) → tablet_number ts (get_or place c 0) ≡ name_at x ts place c
+unfolding name_at
+some_one x ts place zero e = absurd (e refl)
+some_one x ts place (suc c) e = refl
+
+pub returns-then-c-eq0 : goal.returns-then-c-eq0
+returns-then-c-eq0 c = none _ _ _ _ c.if-c-eq0.true
+
+pub tablet_number-requires : goal.tablet_number-requires
+tablet_number-requires c =
+    omega (arith, c.from_u16.ensures.0, c.requires.1 (omega arith))
+
+pub returns : goal.returns
+returns c =
+    c.tablet_number.ensures ∙ ap (tablet_number _) c.from_u16.ensures.0
+    ∙ some_one _ _ _ _ c.if-c-eq0.false
