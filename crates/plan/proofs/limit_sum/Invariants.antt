@@ -1,0 +1,18 @@
+-- `plan::limit_sum` meets its contract. The invariant: `sum` is the limits of the first i relays, each at most the greatest limit. The measure is
+-- how many are left. Assumes nothing.
+use mathlib.Core.Path.{◌≡◌, refl}
+use Prim.Native.Nat.{◌*◌, ◌-◌, ◌≤◌}
+use native.Mathlib.Omega.{arith}
+use Rattle.ring.specs.Most.{most_limit}
+use Rattle.rule.specs.Entry.{total}
+use Rattle.tables.proofs.Loops.{at_end}
+use Rattle.tables.specs.Table.{relay_number, relay_limit}
+use Rattle.meaning.specs.Meaning.{places, relays_in}
+use Rattle.meaning.proofs.More.{total_more}
+use Rattle.plan.proofs.limit_sum.Given as goal
+
+abbrev pub invariant-loop-i : goal.invariant-loop-i
+invariant-loop-i l = (l.i ≤ l.n) × (l.sum ≡ total (relays_in l.relays l.i)) × (l.sum ≤ most_limit * l.i)
+
+abbrev pub decreases-loop-i : goal.decreases-loop-i
+decreases-loop-i l = l.n - l.i

@@ -1,0 +1,17 @@
+-- `plan::moves_fit` meets its contract: no more tablets move than there are, and else they are counted. Assumes nothing.
+use mathlib.Core.Path.{ap}
+use lib.Dec.{leb}
+use Rattle.plan.proofs.Changes.{count_fits}
+use Rattle.plan.proofs.moves_fit.Goals as goal
+
+pub returns-then-m-places : goal.returns-then-m-places
+returns-then-m-places c =
+    count_fits c.args.relays.now c.args.relay.now
+    c.args.tablets.now c.args.m
+    c.args.places c.if-m-places.true
+
+pub count_moves-requires : goal.count_moves-requires
+count_moves-requires c = c.requires
+
+pub returns : goal.returns
+returns c = ap (λ k. leb k c.args.places) c.count_moves.ensures
