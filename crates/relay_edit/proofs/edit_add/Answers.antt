@@ -44,7 +44,7 @@ put_in-around-requires c =
     let a = c.args in
     add_asks a.r (stands (goal.at.put_in-around-requires c).Else-not-done) c.done-done-2.ensures a.limit c.relay_places.ensures
     c.add_refusal-wrong.ensures.0
-    c.if-not-done-2.false c.copied-own.ensures
+    (ap not c.if-not-done-2.false) c.copied-own.ensures
 
 pub overflow_add-more : goal.overflow_add-more
 overflow_add-more c = omega (arith, stands_few (stands (goal.at.overflow_add-more c).Else-not-done))
@@ -54,7 +54,7 @@ returns c =
     let a = c.args in
     add_passed a.r (stands (goal.at.returns c).Else-not-done) c.done-done-2.ensures a.limit c.relay_places.ensures
     c.add_refusal-wrong.ensures.0
-    c.if-not-done-2.false c.copied-own.ensures
+    (ap not c.if-not-done-2.false) c.copied-own.ensures
     (add_about a.r a.limit) c.add_refusal-wrong.ensures.1 refl refl refl
     c.insert_relay.ensures c.relay_at-q.ensures
     (omega (arith, c.relay_at-q.type_inv))
