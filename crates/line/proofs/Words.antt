@@ -15,13 +15,12 @@ use borrow.Author.Tests.{ltb-true, ltb-false, eqb-true, ne_eqb}
 use lib.Dec.{eqb, ltb}
 use lib.ListN.{length, get_or, take, drop, length-drop}
 use lib.Seq.{take_all, take-length}
-use Rattle.bytes.specs.Bytes.{index_of, index_after, slice}
 use Rattle.ring.proofs.Tests.{split}
 use Rattle.line.specs.declared.Number.{Number}
 use Rattle.line.specs.declared.Number.TheVariants.{Is, Not}
 use Rattle.line.specs.declared.Line.TheVariants.{Other}
 use Rattle.line.specs.Decimal.{digit, all_digits, plain, decimal_of}
-use Rattle.line.specs.Line.{onto, words, letter_of, with_one, with_two, said, meaning_of}
+use Rattle.line.specs.Line.{space_at, onto, words, letter_of, with_one, with_two, said, meaning_of}
 
 -- a part that reaches to the end
 pub part_rest : (n : ℕ) (l : List ℕ) → take (length l - n) (drop n l) ≡ drop n l
@@ -29,40 +28,36 @@ part_rest n l = take_all (length l - n) (drop n l) (omega (arith, length-drop n 
 
 -- ---- the first space
 
-found : (l : List ℕ) {n : ℕ} → n ≡ 0 + index_of 32 (slice 0 (length l) l) → n ≡ index_of 32 l
-unfolding slice
-found l e = e ∙ zero-add (index_of 32 (take (length l) l)) ∙ ap (index_of 32) (take-length l)
-
-pub words_one : (l : List ℕ) → length l ≤ index_of 32 l → words l ≡ l ∷ []
-unfolding words onto index_of index_after
+pub words_one : (l : List ℕ) → length l ≤ space_at l → words l ≡ l ∷ []
+unfolding words onto space_at
 words_one [] h = refl
 words_one (b ∷ bs) h = split (eqb b 32)
     (λ s. absurd (omega (arith, rw s at h)))
     (λ s. rw (s, words_one bs (omega (arith, rw s at h))))
 
-pub words_more : (l : List ℕ) → index_of 32 l < length l → words l ≡ take (index_of 32 l) l ∷ words
-    (drop (suc (index_of 32 l)) l)
-unfolding words onto index_of index_after
+pub words_more : (l : List ℕ) → space_at l < length l → words l ≡ take (space_at l) l ∷ words
+    (drop (suc (space_at l)) l)
+unfolding words onto space_at
 words_more [] h = absurd (omega arith)
 words_more (b ∷ bs) h = split (eqb b 32)
     (λ s. rw s)
     (λ s. rw (s, words_more bs (omega (arith, rw s at h))))
 
 -- a space is no digit
-spaced : (l : List ℕ) → index_of 32 l < length l → all_digits l ≡ false
-unfolding index_of index_after all_digits digit
+spaced : (l : List ℕ) → space_at l < length l → all_digits l ≡ false
+unfolding space_at all_digits digit
 spaced [] h = absurd (omega arith)
 spaced (b ∷ bs) h = split (eqb b 32)
     (λ s. rw (eqb-true b 32 s))
     (λ s. rw (spaced bs (omega (arith, rw s at h)), and-false))
 
-decimal_spaced : (l : List ℕ) → index_of 32 l < length l → decimal_of l ≡ Not
+decimal_spaced : (l : List ℕ) → space_at l < length l → decimal_of l ≡ Not
 unfolding decimal_of plain
 decimal_spaced l h = rw (spaced l h, and-false)
 
 -- ---- a letter with what stands behind it
 
-pub said_one : (w l : List ℕ) → length l ≤ index_of 32 l → said (w ∷ words l) ≡ with_one (letter_of w) (decimal_of l)
+pub said_one : (w l : List ℕ) → length l ≤ space_at l → said (w ∷ words l) ≡ with_one (letter_of w) (decimal_of l)
 unfolding said
 said_one w l h = rw (words_one l h)
 
@@ -84,25 +79,24 @@ many w x y (b ∷ bs) = split (eqb b 32) (λ s. rw s) (λ s. rw s (many_onto w x
 
 pub said_two : (w x l : List ℕ) → said (w ∷ x ∷ words l) ≡ with_two (letter_of w) (decimal_of x) (decimal_of l)
 unfolding said
-said_two w x l = split (ltb (index_of 32 l) (length l))
-    (λ s. let h : index_of 32 l < length l = ltb-true (index_of 32 l) (length l) s in
-    ap (λ ws. said (w ∷ x ∷ ws)) (words_more l h) ∙ many w x (take (index_of 32 l) l) (drop (suc (index_of 32 l)) l)
+said_two w x l = split (ltb (space_at l) (length l))
+    (λ s. let h : space_at l < length l = ltb-true (space_at l) (length l) s in
+    ap (λ ws. said (w ∷ x ∷ ws)) (words_more l h) ∙ many w x (take (space_at l) l) (drop (suc (space_at l)) l)
     ∙ sym (ap (with_two (letter_of w) (decimal_of x)) (decimal_spaced l h) ∙ two_not (letter_of w) (decimal_of x)))
-    (λ s. rw (words_one l (ltb-false (index_of 32 l) (length l) s)))
+    (λ s. rw (words_one l (ltb-false (space_at l) (length l) s)))
 
 -- the same, with the place of the first space as a search finds it
-module _ (w l : List ℕ) {end : ℕ} (at : end ≡ 0 + index_of 32 (slice 0 (length l) l)) {first : Number}
+module _ (w l : List ℕ) {end : ℕ} (at : end ≡ space_at l) {first : Number}
     (f : first ≡ decimal_of (take (end - 0) l)) where
   pub rest_one : end ≡ length l → with_one (letter_of w) first ≡ said (w ∷ words l)
   rest_one e =
-      rw (f, sub-zero end, e, take-length l) (sym (said_one w l (omega (arith, found l at))))
+      rw (f, sub-zero end, e, take-length l) (sym (said_one w l (omega (arith, at))))
 
   pub rest_two : end < length l → {second : Number}
       → second ≡ decimal_of (take (length l - (end + 1)) (drop (end + 1) l)) → with_two (letter_of w) first second
       ≡ said (w ∷ words l)
   rest_two h g =
-      let e : end ≡ index_of 32 l = found l at in
-      rw (f, sub-zero end, g, part_rest (end + 1) l, words_more l (omega (arith, e)), ← e, ← add-one end)
+      rw (f, sub-zero end, g, part_rest (end + 1) l, words_more l (omega (arith, at)), ← at, ← add-one end)
       (sym (said_two w (take end l) (drop (end + 1) l)))
 
 -- ---- a line by its first two bytes

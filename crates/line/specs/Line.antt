@@ -1,7 +1,7 @@
 -- The lines that `watch` reads (document 01, "A drill to prove"; docs/DECISIONS.md, reading 9): `a relay limit`, `r relay`, `s relay limit`,
 -- `e tablet`, `w tablet`, `f tablet`, with single spaces, and nothing else. The first line is `scheme` and a scheme that there is.
 -- Assumes nothing.
-use Rattle.std.specs.Prelude.{cond, List, [], ◌∷◌, ℕ, eqb}
+use Rattle.std.specs.Prelude.{cond, List, [], ◌∷◌, ℕ, suc, eqb}
 use Rattle.std.proofs.Math.Option.{Option, none, some}
 use Rattle.ring.specs.Scheme.{known}
 use Rattle.rule.specs.declared.Call.TheVariants.{Add, Remove, Set, Enrol, Withdraw, Find}
@@ -14,6 +14,11 @@ use Rattle.line.specs.declared.First.TheVariants as first
 use Rattle.line.specs.Decimal.{decimal_of}
 
 -- ---- a line as its words
+
+-- where the first space (32) stands, or the length where there is none
+unfoldable pub space_at : List ℕ → ℕ
+space_at [] = 0
+space_at (b ∷ bs) = cond (eqb b 32) 0 (suc (space_at bs))
 
 -- one byte more in front of the first word
 unfoldable pub onto : ℕ → List (List ℕ) → List (List ℕ)

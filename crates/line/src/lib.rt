@@ -1,7 +1,7 @@
 // What a line of input means (document 01, "A drill to prove"; docs/DECISIONS.md, reading 9).
-ghost use Rattle.std.specs.Prelude.{◌≡◌, [], ◌∷◌, ◌≤◌};
+ghost use Rattle.std.specs.Prelude.{◌≡◌, [], ◌∷◌, ◌≤◌, length};
 ghost use Rattle.line.specs.Decimal.{digit, with_byte, with_bytes, leading_zero, decimal_of};
-ghost use Rattle.line.specs.Line.{words, with_one, with_two, said, meaning_of, scheme_of, known_or};
+ghost use Rattle.line.specs.Line.{space_at, words, with_one, with_two, said, meaning_of, scheme_of, known_or};
 
 // The greatest number and one more, which stands for what is no number.
 const NONE: u64 = ring::NUMBERS;
@@ -124,11 +124,25 @@ fn with_two(letter: u8, n: Number, limit: Number) -> Line
     }
 }
 
+// Where the first space stands, or the length where there is none.
+fn space_at(rest: &[u8]) -> usize
+    ensures { (result ≡ space_at rest.now) × (result ≤ length rest.now) }
+{
+    let mut i = 0;
+    while i < rest.len() {
+        if rest[i] == b' ' {
+            break;
+        }
+        i += 1;
+    }
+    i
+}
+
 // A letter with what stands behind it and its space.
 fn with_rest(letter: u8, rest: &[u8]) -> Line
     ensures { result ≡ said ((letter ∷ []) ∷ words rest.now) }
 {
-    let end = bytes::scan::find(rest, 0, rest.len(), b' ');
+    let end = space_at(rest);
     let first = decimal(&rest[0..end]);
     if end == rest.len() {
         return with_one(letter, first);

@@ -14,19 +14,17 @@ use borrow.Author.Rules.{rules}
 use Rattle.enrol.proofs.enrol.Goals as goal
 use Rattle.enrol.proofs.enrol.Goals.{After-prepare-p, Else-not-done}
 
--- HELPER
+-- the plan, the call done, and the work that it lays out
 prepared : (c : After-prepare-p) → let a = c.args in
     Prepared a.scheme a.relays.now a.tablets.now a.moves.now a.t c.prepare-p.result
 prepared c = c.prepare-p.ensures c.args.moves.now refl
 
--- HELPER
 done : (c : Else-not-done) → is_done c.prepare-p.result.refusal ≡ true
 done c = test_true _ c.done-done.ensures (ap not c.if-not-done.false)
 
--- HELPER
 worked : (c : Else-not-done) → let a = c.args in let e = c.prepare-p.result in
     Worked a.scheme a.relays.now a.tablets.now a.moves.now a.t e.m e.at e.chain
-worked c = (prepared c).worked (done c)
+worked c = (c.prepare-p.ensures c.args.moves.now refl).worked (test_true _ c.done-done.ensures (ap not c.if-not-done.false))
 
 pub returns-then-not-done : goal.returns-then-not-done
 returns-then-not-done c =

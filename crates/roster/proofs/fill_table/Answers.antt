@@ -1,0 +1,8 @@
+-- `roster::fill_table` meets its contract: the block is copied, and what lies behind it cleared. Assumes nothing.
+use borrow.Author.Rules.{rules}
+use Rattle.roster.proofs.Fronts.{front_filled}
+use Rattle.roster.proofs.fill_table.Goals as goal
+
+pub returns : goal.returns
+returns c =
+    front_filled _ _ c.copy.auto.0 c.copy.ensures c.clear.ensures
