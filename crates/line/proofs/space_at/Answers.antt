@@ -19,7 +19,7 @@ further l i h n a =
 past : (l : List ℕ) (i : ℕ) → i ≤ length l → length l ≤ i → space_at l ≡ i + space_at (drop i l) → i ≡ space_at l
 unfolding space_at
 past l i h g a =
-    let z : space_at (drop i l) ≡ 0 = rw (drop_of_length-le l i g) refl in
+    let z : space_at (drop i l) ≡ 0 = rw (drop_of_length-le l g) refl in
     omega (arith, a, z)
 
 pub loop-i-init : goal.loop-i-init

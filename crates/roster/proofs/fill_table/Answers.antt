@@ -5,4 +5,4 @@ use Rattle.roster.proofs.fill_table.Goals as goal
 
 pub returns : goal.returns
 returns c =
-    front_filled _ _ c.copy.auto.0 c.copy.ensures c.clear.ensures
+    front_filled _ _ c.copy.auto.table c.copy.ensures c.clear.ensures
