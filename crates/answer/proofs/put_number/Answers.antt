@@ -11,5 +11,5 @@ pub returns : goal.returns
 unfolding number_then
 returns c =
     let d = c.decimal-count in
-    puts_append (puts_text (d.ensures.1.1 ∙ spelled _ _ (omega arith) d.ensures.1.0)
+    puts_append (puts_text (d.ensures.digits ∙ spelled _ _ (omega arith) d.ensures.len)
     c.put_bytes-next.ensures) c.put_byte.ensures

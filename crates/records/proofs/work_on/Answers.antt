@@ -1,0 +1,13 @@
+-- `records::work_on` meets its contract: the call's promise for the part of the numbers that it is lent, by `works`. Assumes nothing.
+use mathlib.Core.Path.{refl}
+use borrow.Author.Rules.{rules}
+use Rattle.calls.proofs.Kept.{kept_answers}
+use Rattle.records.proofs.Works.{scratch_length, works}
+use Rattle.records.proofs.work_on.Goals as goal
+
+pub returns : goal.returns
+returns c =
+    works _ _ _ _ _ _ _ (kept_answers _ _ _ _ _ _ c.call.ensures)
+    (scratch_length c.args.numbers.now c.useful-places.result c.args.room c.requires
+    c.useful-places.ensures)
+    refl

@@ -1,0 +1,8 @@
+-- `wairepomuro::wairepomuro_read` meets its contract: the promise of the reading, its refusal as a number. Assumes nothing.
+use borrow.Author.Rules.{rules}
+use Rattle.wairepomuro.proofs.Served.{serves_reading}
+use Rattle.wairepomuro.proofs.wairepomuro_read.Goals as goal
+
+pub returns : goal.returns
+returns c =
+    serves_reading _ _ _ c.read-made.ensures c.number.ensures
