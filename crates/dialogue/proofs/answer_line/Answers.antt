@@ -10,13 +10,13 @@ use Rattle.dialogue.proofs.answer_line.Goals as goal
 pub returns-in-First : goal.returns-in-First
 unfolding answered
 returns-in-First c =
-    rw c.enum_told-1.given.1 (shows_said c.first_line.ensures)
+    rw c.in-First.is (shows_said c.first_line.ensures)
 
 pub returns-in-Under : goal.returns-in-Under
 unfolding answered
 returns-in-Under c =
-    rw c.stage-1.given.1 c.next_line.ensures
+    rw c.in-Under.is c.next_line.ensures
 
 pub returns-in-Over : goal.returns-in-Over
 unfolding answered
-returns-in-Over c = rw c.enum_told-in-Over-1.given.1 (shows_said (says_text (puts_nothing _ (omega arith))))
+returns-in-Over c = rw c.in-Over.is (shows_said (says_text (puts_nothing _ (omega arith))))

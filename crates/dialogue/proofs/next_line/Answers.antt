@@ -1,5 +1,5 @@
 -- `dialogue::next_line` meets its contract, for a line that is a call and for one that is none. Assumes nothing.
-use mathlib.Core.Path.{sym, ◌∙◌}
+use mathlib.Core.Path.{sym}
 use Rattle.dialogue.specs.Lines.{under}
 use Rattle.dialogue.proofs.Answers.{shows_said, shows_call}
 use borrow.Author.Rules.{rules}
@@ -8,11 +8,11 @@ use Rattle.dialogue.proofs.next_line.Goals as goal
 pub returns-in-Call : goal.returns-in-Call
 unfolding under
 returns-in-Call c =
-    rw (sym c.meaning.ensures ∙ c.c-1.given.1)
+    rw (sym c.in-Call.ensures)
     (shows_call _ _ _ _ _ _ c.call-reply.ensures c.answer-due.ensures)
 
 pub returns-in-Other : goal.returns-in-Other
 unfolding under
 returns-in-Other c =
-    rw (sym c.meaning.ensures ∙ c.enum_told-1.given.1)
+    rw (sym c.in-Other.ensures)
     (shows_said c.other_line.ensures)
