@@ -13,7 +13,7 @@ pub enum Stage {
 }
 
 // Where a run stands: the stage, how many bytes of the line that is being read are kept, and how many bytes of the answer are due.
-#[derive(Drop)]
+#[derive(Clone, Copy)]
 pub struct Standing {
     pub stage: Stage,
     pub kept: usize,

@@ -4,7 +4,8 @@ ghost use Rattle.std.specs.Prelude.{[], ◌∷◌, ◌≡◌, ◌≤◌, ◌<◌
 ghost use Rattle.std.proofs.lemmas.List.Edits.{sets};
 ghost use Rattle.watch.specs.Chunks.{Brings};
 
-const STDIN: i32 = 0;
+use std::io::Read;
+use std::io::Stdin;
 
 const STDOUT: i32 = 1;
 
@@ -58,12 +59,22 @@ fn after_read(chunk: &mut [u8], kept: usize, got: isize) -> Brought
     }
 }
 
-// Reads once.
-fn bring(chunk: &mut [u8], kept: usize) -> Brought
+// Reads once: how many bytes came, 0 at the end of the input, and a number below 0 where it failed.
+fn read_once(input: Stdin, chunk: &mut [u8]) -> isize
+    ensures { length chunk.new ≡ length chunk.old }
+{
+    let mut reader = input;
+    match reader.read(chunk) {
+        Ok(n) => n as isize,
+        Err(_) => -1,
+    }
+}
+
+fn bring(input: Stdin, chunk: &mut [u8], kept: usize) -> Brought
     requires { 0 < length chunk.old }
     ensures { result.count ≤ length chunk.new }
 {
-    let got = libc::read(STDIN, chunk);
+    let got = read_once(input, chunk);
     after_read(chunk, kept, got)
 }
 
@@ -105,7 +116,8 @@ fn take_chunk(
 }
 
 // A proved loop has to end, and nothing says that the input does. So the turns are counted down.
-fn main() {
+fn main(rt: HostRuntime) {
+    let input = rt.stdin();
     let mut relays = [0u32; tables::RELAY_NUMBERS];
     let mut tablets = [0u32; tables::TABLET_NUMBERS];
     let mut moves = [0u32; tables::MOVE_NUMBERS];
@@ -120,7 +132,7 @@ fn main() {
     let mut turns = u64::MAX;
     while turns > 0 {
         let kept = at.kept;
-        let brought = bring(&mut chunk, kept);
+        let brought = bring(input, &mut chunk, kept);
         let count = brought.count;
         at = take_chunk(
             &mut relays,

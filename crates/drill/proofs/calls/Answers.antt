@@ -3,12 +3,8 @@ use mathlib.Core.Path.{refl}
 use Rattle.rule.specs.Drill.{drill, replies}
 use Rattle.histories.specs.Drilled.{drill_calls}
 use Rattle.drill.specs.Calls.{made}
-use Rattle.drill.proofs.calls.Statement.{statement}
-use Rattle.drill.proofs.calls.Tie as tie
+use Rattle.drill.proofs.calls.Goals as goal
 
-returns : tie.Need-returns
+pub returns : goal.returns
 unfolding made drill_calls drill replies
 returns c = refl
-
-pub calls_spec : {M : Type 1} → statement M
-calls_spec = tie.close (tie.spec returns)
