@@ -10,7 +10,6 @@ use Rattle.refill.proofs.Refills.{Fills, filling_none, filling_more, filling_end
 use Rattle.refill.proofs.refill.Goals as goal
 use Rattle.refill.proofs.refill.Goals.{After-led_to-k}
 
--- HELPER
 -- where tablet j's walk goes from, and where the row leads from there
 turn : (c : After-led_to-k) (p : Positions) (ts : List ℕ)
     → let a = c.args in let l = c.loop-j in
@@ -28,7 +27,6 @@ turn c p ts o =
       led_to = c.led_to-k.ensures.0;
     }
 
--- HELPER
 -- for the positions that were asked for
 turn_asked : (c : After-led_to-k)
     → let a = c.args in let l = c.loop-j in

@@ -11,7 +11,6 @@ use borrow.Author.Rules.{rules}
 use Rattle.relay_edit.proofs.edit_remove.Goals as goal
 use Rattle.relay_edit.proofs.edit_remove.Goals.{Else-not-done}
 
--- HELPER
 stands : (c : Else-not-done) → let f = c.find_relay-f.result in let a = c.args in
     Stands a.scheme a.relays.now a.tablets.now a.r.0 f.n f.m f.at f.there f.around
 stands c = found_stands c.find_relay-f.ensures c.done-done.ensures (ap not c.if-not-done.false)

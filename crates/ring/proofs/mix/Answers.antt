@@ -6,7 +6,6 @@ use Rattle.ring.specs.Fnv.{mixed}
 use Rattle.ring.proofs.mix.Goals as goal
 use Rattle.ring.proofs.mix.Goals.{Start}
 
--- HELPER
 small : (c : Start) → bit_xor c.args.hash c.args.byte < 2 ^ 32
 small c = xor_lt 32 c.args.hash c.args.byte (search rules) (search rules)
 

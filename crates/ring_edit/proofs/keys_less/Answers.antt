@@ -9,7 +9,6 @@ use Rattle.ring_edit.proofs.Shifts.{keys_less_none, keys_less_more, keys_less_en
 use Rattle.ring_edit.proofs.keys_less.Goals as goal
 use Rattle.ring_edit.proofs.keys_less.Goals.{After-skip-from}
 
--- HELPER
 from_below : (c : After-skip-from) → let a = c.args in skip a.s
     c.loop-k.k < a.n + 1
 from_below c = skip_below _ _ _ c.loop-k-test.true

@@ -8,7 +8,6 @@ use Rattle.ring_edit.proofs.Shifts.{Raising, raising_none, raising_more, raising
 use Rattle.ring_edit.proofs.keys_more.Goals as goal
 use Rattle.ring_edit.proofs.keys_more.Goals.{After-skip-to}
 
--- HELPER
 to_below : (c : After-skip-to) → let a = c.args in skip a.s
     c.loop-k.k < a.n + 1
 to_below c = skip_below _ _ _ c.loop-k-test.true

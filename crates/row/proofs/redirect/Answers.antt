@@ -6,7 +6,6 @@ use Rattle.row.proofs.Shut.{redirected_none, redirected_more, redirected_end}
 use Rattle.row.proofs.redirect.Goals as goal
 use Rattle.row.proofs.redirect.Goals.{After-wrapping_sub_u8-by}
 
--- HELPER
 -- from k it lies so far to where they are led
 round : (c : After-wrapping_sub_u8-by) → (c.args.k + c.wrapping_sub_u8-by.result) % most_relays
     ≡ c.args.to

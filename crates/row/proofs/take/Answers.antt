@@ -8,14 +8,12 @@ use Rattle.row.proofs.Shut.{row_keeps, row_shut}
 use Rattle.row.proofs.take.Goals as goal
 use Rattle.row.proofs.take.Goals.{After-slot_relay-i}
 
--- HELPER
 -- the room there was at slot k, and the room that is left
 had : (c : After-slot_relay-i) → get_or c.args.room.now c.slot_relay-i.result 0
     ≡ slot_room c.args.keys.now c.args.room.now c.args.k
 unfolding slot_room
 had c = ap (λ (i : ℕ). get_or c.args.room.now i 0) c.slot_relay-i.ensures.0
 
--- HELPER
 less : (c : After-slot_relay-i) → (let room = c.args.room.now in let i = c.slot_relay-i.result in set room
     i (get_or room i 0 - 1) ≡ room_less room (slot_relay c.args.keys.now c.args.k))
 unfolding room_less

@@ -10,7 +10,6 @@ use Rattle.stretch.proofs.Compared.{Lists, lists_short, lists_start, lists_more,
 use Rattle.stretch.proofs.lists.Goals as goal
 use Rattle.stretch.proofs.lists.Goals.{After-place_of-i}
 
--- HELPER
 -- the relay's place, and its next index
 place : (c : After-place_of-i) → c.place_of-i.result < 256
 place c =
@@ -21,7 +20,6 @@ place c =
       c.requires.relays_fit.few,
     )
 
--- HELPER
 inside : (c : After-place_of-i) → get_or c.loop-j.next
     c.place_of-i.result 0 < c.args.m
 inside c =

@@ -9,7 +9,6 @@ use Rattle.tables.specs.Shape.{shape, relay_fits, relay_shape}
 use Rattle.entries.proofs.shape.relay_shape.Goals as goal
 use Rattle.entries.proofs.shape.relay_shape.Goals.{Else-not-fits}
 
--- HELPER
 -- what the first test tells
 fits : (c : Else-not-fits) → relay_fits c.args.relays.now ≡ true
 fits c = sym c.relay_fits-fits.ensures ∙ c.if-not-fits.false

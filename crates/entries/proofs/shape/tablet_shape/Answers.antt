@@ -9,7 +9,6 @@ use Rattle.tables.specs.Shape.{shape, tablet_fits, tablet_shape}
 use Rattle.entries.proofs.shape.tablet_shape.Goals as goal
 use Rattle.entries.proofs.shape.tablet_shape.Goals.{Else-not-fits}
 
--- HELPER
 -- what the first test tells
 fits : (c : Else-not-fits) → tablet_fits c.args.tablets.now ≡ true
 fits c = sym c.tablet_fits-fits.ensures ∙ c.if-not-fits.false
