@@ -122,7 +122,7 @@ fits_again rs l most e h = rw e h
 
 module _ (rs ts : List ℕ) (g : Ring) (relays_fit_lem : relay_fits rs ≡ true) (tablets_fit_lem : tablet_fits ts ≡ true)
     (relays : Table g.relays) (tablets : Table g.tablets)
-    (relaysRoom : length g.relays ≤ relay_places rs) (tabletsRoom : length g.tablets ≤ tablet_places ts) where
+    (relays_room : length g.relays ≤ relay_places rs) (tablets_room : length g.tablets ≤ tablet_places ts) where
   abbrev rs' : List ℕ
   rs' = relay_table (length rs) g
 
@@ -131,11 +131,11 @@ module _ (rs ts : List ℕ) (g : Ring) (relays_fit_lem : relay_fits rs ≡ true)
 
   relays_again : Again rs' g.relays (length rs)
   unfolding relay_table relay_fits relay_whole relay_places
-  relays_again = table_again g.relays (length rs) relaysRoom (even rs most_relays relays_fit_lem) relays
+  relays_again = table_again g.relays (length rs) relays_room (even rs most_relays relays_fit_lem) relays
 
   tablets_again : Again ts' g.tablets (length ts)
   unfolding tablet_table tablet_fits tablet_whole tablet_places
-  tablets_again = table_again g.tablets (length ts) tabletsRoom (even ts most_tablets tablets_fit_lem) tablets
+  tablets_again = table_again g.tablets (length ts) tablets_room (even ts most_tablets tablets_fit_lem) tablets
 
   pub ring_again : ring_of rs' ts' ≡ g
   unfolding ring_of relays_used relay_places relay_number relay_limit tablets_used tablet_places tablet_number tablet_relay

@@ -58,22 +58,22 @@ module _ (b rs ts : List ℕ) (done : is_done (refusal b rs ts) ≡ true) where
   abbrev g : Rule.Ring
   g = roster_ring b
 
-  abbrev enoughRelays : Bool
-  enoughRelays = leb (relay_count b) (relay_places rs)
+  abbrev enough_relays : Bool
+  enough_relays = leb (relay_count b) (relay_places rs)
 
-  abbrev enoughTablets : Bool
-  enoughTablets = leb (tablet_count b) (tablet_places ts)
+  abbrev enough_tablets : Bool
+  enough_tablets = leb (tablet_count b) (tablet_places ts)
 
   relays_fit_lem : relay_fits rs ≡ true
   unfolding tables_fit
-  relays_fit_lem = and_left (relay_fits rs) (tablet_fits ts && (enoughRelays && enoughTablets)) passed.0
+  relays_fit_lem = and_left (relay_fits rs) (tablet_fits ts && (enough_relays && enough_tablets)) passed.0
 
-  rest : (tablet_fits ts && (enoughRelays && enoughTablets)) ≡ true
+  rest : (tablet_fits ts && (enough_relays && enough_tablets)) ≡ true
   unfolding tables_fit
-  rest = and_right (relay_fits rs) (tablet_fits ts && (enoughRelays && enoughTablets)) passed.0
+  rest = and_right (relay_fits rs) (tablet_fits ts && (enough_relays && enough_tablets)) passed.0
 
   tablets_fit_lem : tablet_fits ts ≡ true
-  tablets_fit_lem = and_left (tablet_fits ts) (enoughRelays && enoughTablets) rest
+  tablets_fit_lem = and_left (tablet_fits ts) (enough_relays && enough_tablets) rest
 
   relays_room : length g.relays ≤ relay_places rs
   unfolding roster_ring
@@ -82,7 +82,7 @@ module _ (b rs ts : List ℕ) (done : is_done (refusal b rs ts) ≡ true) where
         arith,
         block_length b (length b - relay_distance b) (relay_count b),
         leb-true (relay_count b) (relay_places rs)
-            (and_left enoughRelays enoughTablets (and_right (tablet_fits ts) (enoughRelays && enoughTablets) rest)),
+            (and_left enough_relays enough_tablets (and_right (tablet_fits ts) (enough_relays && enough_tablets) rest)),
       )
 
   tablets_room : length g.tablets ≤ tablet_places ts
@@ -92,8 +92,8 @@ module _ (b rs ts : List ℕ) (done : is_done (refusal b rs ts) ≡ true) where
         arith,
         block_length b (length b - tablet_distance b) (tablet_count b),
         leb-true (tablet_count b)
-            (tablet_places ts) (and_right enoughRelays enoughTablets
-            (and_right (tablet_fits ts) (enoughRelays && enoughTablets) rest)),
+            (tablet_places ts) (and_right enough_relays enough_tablets
+            (and_right (tablet_fits ts) (enough_relays && enough_tablets) rest)),
       )
 
   ruled : Rule.right (positions (roster_scheme b)) g ≡ true

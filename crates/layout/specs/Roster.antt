@@ -40,11 +40,11 @@ entry_bytes = 8
 -- of so many bytes, with these distances and counts: counts are at most 256 and 4,096, the tablet distance is 20 + 8 × tablets, the relay
 -- distance is that + 8 × relays, and the length equals the relay distance
 unfoldable pub shaped : ℕ → ℕ → ℕ → ℕ → ℕ → Bool
-shaped len relayBack relays tabletBack tablets =
+shaped len relay_back relays tablet_back tablets =
     leb relays most_relays
     && (leb tablets most_tablets
-    && (eqb tabletBack (trailer_bytes + entry_bytes * tablets)
-    && (eqb relayBack (tabletBack + entry_bytes * relays) && eqb len relayBack)))
+    && (eqb tablet_back (trailer_bytes + entry_bytes * tablets)
+    && (eqb relay_back (tablet_back + entry_bytes * relays) && eqb len relay_back)))
 
 -- the length is at least 20, and the trailer's fields are such
 unfoldable pub shape_right : List ℕ → Bool

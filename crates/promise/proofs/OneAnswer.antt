@@ -33,14 +33,14 @@ module _ {R L : Type 0} where
     refused_answers d e = rw (settled_refused d) (record { reply = e; lent = refl })
 
     -- where a done reply says that it is done
-    pub refused_stays : (refusalOf : R → Refusal) → (is_done why ≡ true → is_done (refusalOf done.reply) ≡ true)
+    pub refused_stays : (refusal_of : R → Refusal) → (is_done why ≡ true → is_done (refusal_of done.reply) ≡ true)
         → {r : R} {l : L}
-        → Answers (settled why reply lent done) r l → is_done (refusalOf r) ≡ false → (r ≡ reply) × (l ≡ lent)
-    refused_stays refusalOf says {r} a f =
+        → Answers (settled why reply lent done) r l → is_done (refusal_of r) ≡ false → (r ≡ reply) × (l ≡ lent)
+    refused_stays refusal_of says {r} a f =
         split (is_done why)
-        (λ d. absurd (true_false (sym (says d) ∙ ap (λ (x : After R L). is_done (refusalOf x.reply))
+        (λ d. absurd (true_false (sym (says d) ∙ ap (λ (x : After R L). is_done (refusal_of x.reply))
         (sym (settled_done d))
-        ∙ ap (λ (x : R). is_done (refusalOf x)) (sym a.reply) ∙ f)))
+        ∙ ap (λ (x : R). is_done (refusal_of x)) (sym a.reply) ∙ f)))
         (λ d. answers_one a (refused_answers d refl))
 
   pub tally_answers : {T : Type 0} (counted : R → T) {a : After R L} {r : R} {l : L} {t : T} → Answers a r l

@@ -47,11 +47,11 @@ module _ (p : Positions) (g : Ring) (r : Right p g) (t : TabletNumber) (Some-num
   abbrev pub fulls : List Entry
   fulls = up_to (has_room g.tablets) (order p x g.relays)
 
-  abbrev pub chainTo : Entry → List Move
-  chainTo f = seats (turn g.tablets (newcomer x) fulls) f.number
+  abbrev pub chain_to : Entry → List Move
+  chain_to f = seats (turn g.tablets (newcomer x) fulls) f.number
 
   module _ (f : Entry) (h : first (has_room g.tablets) (order p x g.relays) ≡ some f) where
-    pub enrol_chain : Chain g.tablets x (chainTo f)
+    pub enrol_chain : Chain g.tablets x (chain_to f)
     enrol_chain =
         turn_chain g.tablets x (has_room g.tablets) (order p x g.relays) (newcomer x) f
         (inl (unfold newcomer in (record { walker = refl; from = refl; chain = refl })))
@@ -63,14 +63,14 @@ module _ (p : Positions) (g : Ring) (r : Right p g) (t : TabletNumber) (Some-num
     enrol_after =
         after_is p g (Enrol t) r.relays (omega (arith, length_insert x 0 g.tablets))
         ∙ sym (turn_placement p g r x Some-number new f h)
-        ∙ chain_seated g.tablets r.tablets.up x Some-number new (chainTo f) enrol_chain
+        ∙ chain_seated g.tablets r.tablets.up x Some-number new (chain_to f) enrol_chain
 
     pub enrol_moves : moves p g (Enrol t) ≡ enrol_chain.rest
     unfolding moves edited
     enrol_moves =
         ap (moved g.tablets) (after_is p g (Enrol t) r.relays (omega (arith, length_insert x 0 g.tablets))
         ∙ sym (turn_placement p g r x Some-number new f h))
-        ∙ turn_moves g.tablets r.tablets.up x Some-number new (chainTo f) enrol_chain
+        ∙ turn_moves g.tablets r.tablets.up x Some-number new (chain_to f) enrol_chain
 
     -- the newcomer's relay is where it sat down first
     pub enrol_relay : relay_of p g (Enrol t) ≡ enrol_chain.seat

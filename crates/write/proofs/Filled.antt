@@ -110,17 +110,17 @@ table_written before {after = after} {m = m} size entries whole room zeros =
 
 -- ---- one taken out
 
-taken_zeros : {number_at besideAt : List ℕ → ℕ → ℕ} {before after : List ℕ} {m : ℕ} {es : List Entry} {most : ℕ} → 0 < m
-    → Zeros (number_at before) (besideAt before) m most → TookOut number_at besideAt before after (m - 1) es
-    → Zeros (number_at after) (besideAt after) (m - 1) most
-taken_zeros {number_at = number_at} {besideAt = besideAt} {after = after} {m = m} h z t =
+taken_zeros : {number_at beside_at : List ℕ → ℕ → ℕ} {before after : List ℕ} {m : ℕ} {es : List Entry} {most : ℕ} → 0 < m
+    → Zeros (number_at before) (beside_at before) m most → TookOut number_at beside_at before after (m - 1) es
+    → Zeros (number_at after) (beside_at after) (m - 1) most
+taken_zeros {number_at = number_at} {beside_at = beside_at} {after = after} {m = m} h z t =
     record {
       numbers = λ i l u.
           ⊎_elim (λ (e : i ≡ m - 1). ap (number_at after) e ∙ t.number)
           (λ (d : i ≡ m - 1 → ⊥). let k : m - 1 < i = omega arith in t.numbers i k ∙ z.numbers i (omega arith) u)
           (eq_or_ne i (m - 1));
       besides = λ i l u.
-          ⊎_elim (λ (e : i ≡ m - 1). ap (besideAt after) e ∙ t.beside)
+          ⊎_elim (λ (e : i ≡ m - 1). ap (beside_at after) e ∙ t.beside)
           (λ (d : i ≡ m - 1 → ⊥). let k : m - 1 < i = omega arith in t.besides i k ∙ z.besides i (omega arith) u)
           (eq_or_ne i (m - 1));
     }

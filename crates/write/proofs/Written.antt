@@ -15,7 +15,7 @@ use Rattle.write.proofs.Shifts.{Changed, Wrote, Took}
 
 -- the entry at a place
 abbrev pub entry_at : (List ℕ → ℕ → ℕ) → (List ℕ → ℕ → ℕ) → List ℕ → ℕ → Entry
-entry_at number_at besideAt l i = entry (number_at l i) (besideAt l i)
+entry_at number_at beside_at l i = entry (number_at l i) (beside_at l i)
 
 abbrev pub relay_at : List ℕ → ℕ → Entry
 relay_at = entry_at relay_number relay_limit
@@ -29,21 +29,21 @@ same_number p = ap (λ (e : Entry). e.number) p
 same_beside : {e e' : Entry} → e ≡ e' → e.beside ≡ e'.beside
 same_beside p = ap (λ (e : Entry). e.beside) p
 
-module _ {number_at besideAt : List ℕ → ℕ → ℕ} {before after : List ℕ} {k : ℕ} where
-  pub set_changed : {x v : ℕ} → SetPlace number_at besideAt before after k x v
-      → Changed (entry_at number_at besideAt before) (entry_at number_at besideAt after) k (entry x v)
+module _ {number_at beside_at : List ℕ → ℕ → ℕ} {before after : List ℕ} {k : ℕ} where
+  pub set_changed : {x v : ℕ} → SetPlace number_at beside_at before after k x v
+      → Changed (entry_at number_at beside_at before) (entry_at number_at beside_at after) k (entry x v)
   set_changed s =
       record { here = ap₂ entry s.number s.beside; other = λ i d. ap₂ entry (s.numbers i d) (s.besides i d) }
 
-  pub beside_changed : {v : ℕ} → SetBeside number_at besideAt before after k v
-      → Changed (entry_at number_at besideAt before) (entry_at number_at besideAt after) k (entry (number_at before k) v)
+  pub beside_changed : {v : ℕ} → SetBeside number_at beside_at before after k v
+      → Changed (entry_at number_at beside_at before) (entry_at number_at beside_at after) k (entry (number_at before k) v)
   beside_changed s =
       record { here = ap₂ entry (s.numbers k) s.beside; other = λ i d. ap₂ entry (s.numbers i) (s.besides i d) }
 
-pub took_out : {number_at besideAt : List ℕ → ℕ → ℕ} {before after : List ℕ} {k : ℕ} {es : List Entry} → length after
+pub took_out : {number_at beside_at : List ℕ → ℕ → ℕ} {before after : List ℕ} {k : ℕ} {es : List Entry} → length after
     ≡ length before
-    → Took (entry_at number_at besideAt before) (entry_at number_at besideAt after) k es
-    → TookOut number_at besideAt before after k es
+    → Took (entry_at number_at beside_at before) (entry_at number_at beside_at after) k es
+    → TookOut number_at beside_at before after k es
 took_out e w =
     record {
       size = e;

@@ -5,13 +5,13 @@ use Rattle.rule.specs.Entry.{Entry}
 use Rattle.meaning.specs.Meaning.{places}
 
 -- the first k places are these entries, place k is zeros, and every later place is as it was
-pub record TookOut (number_at besideAt : List ℕ → ℕ → ℕ) (before after : List ℕ) (k : ℕ) (es : List Entry) : Type 0 where
+pub record TookOut (number_at beside_at : List ℕ → ℕ → ℕ) (before after : List ℕ) (k : ℕ) (es : List Entry) : Type 0 where
   pub size : length after ≡ length before
-  pub entries : places (number_at after) (besideAt after) k ≡ es
+  pub entries : places (number_at after) (beside_at after) k ≡ es
   pub number : number_at after k ≡ 0
-  pub beside : besideAt after k ≡ 0
+  pub beside : beside_at after k ≡ 0
   pub numbers : (i : ℕ) → k < i → number_at after i ≡ number_at before i
-  pub besides : (i : ℕ) → k < i → besideAt after i ≡ besideAt before i
+  pub besides : (i : ℕ) → k < i → beside_at after i ≡ beside_at before i
 
 -- of so many places, each behind the first m is zeros
 pub record Zeros (number beside : ℕ → ℕ) (m most : ℕ) : Type 0 where
