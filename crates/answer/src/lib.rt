@@ -1,5 +1,7 @@
 // Answers as text (document 01, "A drill to prove"), put together in a lent slice, so that each can go out in one write. Every function
 // answers with the place behind what it put. What has no room is left out.
+#![tactic(auto)]
+
 ghost use Rattle.std.specs.Prelude.{[], ◌∷◌, ◌++◌, ◌≡◌, ◌+◌, ◌*◌, ◌≤◌, ◌<◌, min, length};
 ghost use Rattle.text.specs.Puts.{Puts};
 ghost use Rattle.answer.specs.Text.{number_then, move_text_at, moves_text, answer_text};

@@ -1,4 +1,6 @@
 // The balanced limit (document 01, "Sheet, balance, tally").
+#![tactic(auto)]
+
 ghost use Rattle.std.specs.Prelude.{◌≡◌, ◌||◌, ◌≤◌, ◌<◌, eqb, ltb};
 ghost use Rattle.ring.specs.Most.{most_relays, most_tablets};
 ghost use Rattle.rule.specs.Balance.{balance_refusal, rounded_up, balanced_limit, balance};

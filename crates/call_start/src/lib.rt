@@ -1,4 +1,6 @@
 // What every call starts from: is the scheme known, are the lent tables right, and what did the check learn?
+#![tactic(auto)]
+
 ghost use Rattle.std.specs.Prelude.{◌≡◌};
 ghost use Rattle.meaning.specs.Meaning.{tables_refusal};
 ghost use Rattle.call_start.specs.Start.{FirstLook, verdict, Looks};

@@ -1,5 +1,7 @@
 // The six calls, each of which also brings the lent tally up to date, and the six as one (document 01, "Replies", "Sheet, balance, tally"). A tally
 // is four numbers; one of another length is left as it is, and the call does and replies the same.
+#![tactic(auto)]
+
 ghost use Rattle.std.specs.Prelude.{List, ℕ};
 ghost use Rattle.rule.specs.declared.Call.TheVariants.{Add, Remove, Set, Enrol, Withdraw, Find};
 ghost use Rattle.promise.specs.Promise.{Answers};

@@ -1,5 +1,7 @@
 // The chain of an enrolment (document 01, "The rule of placement"): the newcomer walks its order; at a full relay that holds a greater number it
 // takes the place of the greatest there, and that one walks on, until the first relay with room.
+#![tactic(auto)]
+
 ghost use Rattle.std.specs.Prelude.{◌≡◌, ℕ, ◌+◌, ◌-◌, ◌<◌, ◌≤◌, length, get_or, set};
 ghost use Rattle.ring.specs.Most.{most_relays, most_tablets};
 ghost use Rattle.ring.specs.Scheme.{positions};

@@ -1,5 +1,7 @@
 // What a line of input does (document 01, "A drill to prove"; docs/DECISIONS.md, reading 9), with nothing read or written: what a line means is
 // `line`'s, what a call does `calls`'s, how an answer reads `answer`'s.
+#![tactic(auto)]
+
 ghost use Rattle.line.specs.Line.{meaning_of};
 ghost use Rattle.call_start.specs.Promise.{lists};
 ghost use Rattle.dialogue.specs.Lines.{Shows, under, answered};

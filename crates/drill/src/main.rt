@@ -1,5 +1,7 @@
 // The drill of document 01 ("A drill to prove"), run in the forms that it names ("Forms for each place"): every call is lent a tally and a list of
 // move records, and every relay's stretch is a part of the lent sheet. A call's answer is printed as `watch` prints it.
+#![tactic(auto)]
+
 ghost use Rattle.std.specs.Prelude.{◌≡◌, ◌≤◌};
 ghost use Rattle.promise.specs.Promise.{Answers};
 ghost use Rattle.call_start.specs.Promise.{lists};

@@ -1,5 +1,7 @@
 // Enrolling a tablet (document 01, "The rule of placement"). What it comes to is worked out first, in `newcomer`; nothing lent is written
 // before the last refusal is decided.
+#![tactic(auto)]
+
 ghost use Rattle.std.specs.Prelude.{ℕ, ◌+◌, ◌*◌, ◌<◌, ◌≤◌, length};
 ghost use Rattle.rule.specs.declared.Call.TheVariants.{Enrol};
 ghost use Rattle.tables.specs.Table.{relay_places, tablet_places, tablet_number};

@@ -1,5 +1,7 @@
 // The entries of lent tables (document 01, "The lent tables"): where the numbers come first, a search by halves finds how many places are
 // in use, and the shape is tested with as many.
+#![tactic(auto)]
+
 mod shape;
 
 ghost use Rattle.std.specs.Prelude.{◌≡◌, false};

@@ -1,4 +1,6 @@
 // The call that finds a tablet (document 01, "Replies").
+#![tactic(auto)]
+
 ghost use Rattle.std.specs.Prelude.{List, ℕ};
 ghost use Rattle.rule.specs.declared.Call.TheVariants.{Find};
 ghost use Rattle.promise.specs.Promise.{Answers};

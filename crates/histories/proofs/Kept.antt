@@ -71,23 +71,23 @@ module _ (s : ℕ) (rs ts ms : List ℕ) (c : Call) where
     stands_accepted =
         let e : Edited g c = edited_tables p lent g c (right_is p g a.tables) a.numbers small in
         let r : Right p (Calls.after p g c) = after_right p g c e a.enough in
-        let relays_room : length (Calls.after p g c).relays ≤ relay_places rs = relays_room s rs ts ms c a.numbers in
-        let tablets_room : length (Calls.after p g c).tablets ≤ tablet_places ts =
+        let room_for_relays : length (Calls.after p g c).relays ≤ relay_places rs = relays_room s rs ts ms c a.numbers in
+        let room_for_tablets : length (Calls.after p g c).tablets ≤ tablet_places ts =
         omega (arith, after_length p g c e a.enough, tablets_room s rs ts ms c a.numbers) in
         record {
           ring = ring_again rs ts (Calls.after p g c) fits.relays fits.tablets r.relays
-              r.tablets relays_room tablets_room;
+              r.tablets room_for_relays room_for_tablets;
           right = rw (
             fit_again rs ts (Calls.after p g c) fits.relays fits.tablets r.relays
-                r.tablets relays_room tablets_room,
+                r.tablets room_for_relays room_for_tablets,
             ring_again rs ts (Calls.after p g c) fits.relays fits.tablets
-                r.relays r.tablets relays_room tablets_room,
+                r.relays r.tablets room_for_relays room_for_tablets,
           )
               (right_from p (Calls.after p g c) r);
           relays = (lengths_again rs ts (Calls.after p g c) fits.relays fits.tablets r.relays
-              r.tablets relays_room tablets_room).0;
+              r.tablets room_for_relays room_for_tablets).0;
           tablets = (lengths_again rs ts (Calls.after p g c) fits.relays fits.tablets r.relays
-              r.tablets relays_room tablets_room).1;
+              r.tablets room_for_relays room_for_tablets).1;
         }
 
     pub call_stands : Stands s rs ts (Calls.after p g c) (after s rs ts ms c).lent.relays

@@ -1,1 +1,2 @@
 // Calls one after the other on the same lent numbers: definitions and laws alone.
+#![tactic(auto)]

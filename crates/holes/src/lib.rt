@@ -1,5 +1,7 @@
 // The holes of a withdrawal (document 01, "The rule of placement"): who takes the hole at a relay, and so on from hole to hole, and
 // how they sit down.
+#![tactic(auto)]
+
 ghost use Rattle.std.specs.Prelude.{◌≡◌, ◌<◌, ◌≤◌, take, nat_lt};
 ghost use Rattle.ring.specs.Most.{most_tablets};
 ghost use Rattle.tables.specs.Table.{tablet_relay};

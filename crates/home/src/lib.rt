@@ -1,4 +1,6 @@
 // The home of a position among the relays in ring order (document 01, "The ring").
+#![tactic(auto)]
+
 ghost use Rattle.std.specs.Prelude.{◌≡◌, ◌&&◌, ◌/◌, ◌<◌, ◌≤◌, eqb, leb, length};
 ghost use Rattle.ring.specs.Most.{most_relays};
 ghost use Rattle.order.specs.Keys.{KeysRise};

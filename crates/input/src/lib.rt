@@ -1,5 +1,7 @@
 // What a byte of the input does (document 01, "A drill to prove"; docs/DECISIONS.md, reading 9), with nothing read or written. What a line
 // does is `dialogue`'s.
+#![tactic(auto)]
+
 ghost use Rattle.std.specs.Prelude.{◌≡◌, take};
 ghost use Rattle.call_start.specs.Promise.{lists};
 ghost use Rattle.input.specs.Bytes.{Takes};

@@ -1,4 +1,6 @@
 // A roster's bytes (document 01, "Roster file"): numbers in bytes, entries in blocks, and the trailer that says how many there are.
+#![tactic(auto)]
+
 ghost use Rattle.std.specs.Prelude.{◌≡◌, ◌+◌, ◌*◌, ◌≤◌, ◌<◌, length};
 ghost use Rattle.write.specs.Tables.{flat};
 ghost use Rattle.layout.specs.Numbers.{number_bytes, number_at};

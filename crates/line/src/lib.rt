@@ -1,4 +1,6 @@
 // What a line of input means (document 01, "A drill to prove"; docs/DECISIONS.md, reading 9).
+#![tactic(auto)]
+
 ghost use Rattle.std.specs.Prelude.{◌≡◌, [], ◌∷◌, ◌≤◌, length};
 ghost use Rattle.line.specs.Decimal.{digit, with_byte, with_bytes, leading_zero, decimal_of};
 ghost use Rattle.line.specs.Line.{space_at, words, with_one, with_two, said, meaning_of, scheme_of, known_or};

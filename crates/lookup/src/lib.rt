@@ -1,4 +1,6 @@
 // Where a number stands in a lent table, or would stand, and whether it is there: a search by halves over the numbers, which rise.
+#![tactic(auto)]
+
 ghost use Rattle.std.specs.Prelude.{◌≡◌};
 ghost use Rattle.rule.specs.Entry.{has};
 ghost use Rattle.tables.specs.Table.{relay_number, RelaysIn, tablet_number, TabletsIn};

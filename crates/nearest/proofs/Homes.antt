@@ -11,7 +11,7 @@ use Rattle.ring.specs.Most.{most_relays}
 use Rattle.ring.specs.Clockwise.{clockwise, distance}
 use Rattle.order.specs.Keys.{ring_key, slot_relay, KeysRise, Ordered}
 use Rattle.home.specs.Home.{key_at}
-use Rattle.nearest.specs.Nearest.{in_slots, Nearest, itself, round, HomeAt}
+use Rattle.nearest.specs.Nearest.{Nearest, itself, round, HomeAt}
 use Rattle.nearest.proofs.Nearer.{behind_is}
 
 module _ {position keys : List ℕ} {n t k : ℕ} (few : n ≤ most_relays) (ring : Ordered position n keys)

@@ -1,5 +1,7 @@
 // Which of the relays in ring order a position comes to first (document 01, "The ring"): by distance clockwise, past the top of the ring too,
 // and equal distances by slot, which is by relay number.
+#![tactic(auto)]
+
 ghost use Rattle.std.specs.Prelude.{◌≡◌, ◌/◌, ◌^◌, ◌<◌, ◌≤◌};
 ghost use Rattle.ring.specs.Most.{most_relays};
 ghost use Rattle.ring.specs.Clockwise.{distance, sooner};

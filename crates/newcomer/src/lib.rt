@@ -1,5 +1,7 @@
 // What enrolling a newcomer comes to (document 01, "Replies"): a refusal, or its place in the table and everybody who sits down. Nothing
 // lent is written here.
+#![tactic(auto)]
+
 ghost use Rattle.std.specs.Prelude.{◌≡◌, ◌&&◌, List, ltb, ℕ, ◌/◌, ◌≤◌, length};
 ghost use Rattle.ring.specs.Most.{most_relays};
 ghost use Rattle.ring.specs.Scheme.{positions};

@@ -1,5 +1,7 @@
 // One place of a lent table or of a move list, written (document 01, "The lent tables"). Whoever writes by these functions need not know how many
 // numbers a place has.
+#![tactic(auto)]
+
 ghost use Rattle.std.specs.Prelude.{◌≡◌, ◌+◌, ◌*◌, ◌<◌, ◌≤◌, length};
 ghost use Rattle.tables.specs.Table.{relay_places, relay_number, relay_limit, tablet_places, tablet_number, tablet_relay};
 ghost use Rattle.place.specs.Places.{SetPlace, SetBeside};

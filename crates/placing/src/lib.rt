@@ -1,4 +1,6 @@
 // What the rule of placement (document 01, "The rule of placement") asks of relays: where each stands, and how many it may hold.
+#![tactic(auto)]
+
 ghost use Rattle.std.specs.Prelude.{◌≡◌};
 ghost use Rattle.ring.specs.Scheme.{positions};
 ghost use Rattle.tables.specs.Table.{RelaysIn};

@@ -1,5 +1,7 @@
 // What another relay table does to the tablets (document 01, "The rule of placement"): which of them move, whether that is refused, and the
 // writing of it. A plan is made before anything is written.
+#![tactic(auto)]
+
 ghost use Rattle.std.specs.Prelude.{cond, ◌≡◌, ◌+◌, ◌<◌, eqb, leb, length, get_or};
 ghost use Rattle.ring.specs.Most.{most_tablets};
 ghost use Rattle.ring.specs.Scheme.{Positions};

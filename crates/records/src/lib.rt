@@ -1,4 +1,6 @@
 // What a call leaves for a list of move records (document 01, "Forms for each place"): its moves as numbers, and each of them as a record.
+#![tactic(auto)]
+
 ghost use Rattle.std.specs.Prelude.{◌≡◌, ◌+◌, ◌*◌, ◌<◌, min, length};
 ghost use Rattle.ring.specs.Most.{most_tablets};
 ghost use Rattle.records.specs.Record.{move_at};

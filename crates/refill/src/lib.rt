@@ -1,4 +1,6 @@
 // Every tablet placed afresh (document 01, "The rule of placement"): the relay that the rule gives each, whatever relay is written beside it.
+#![tactic(auto)]
+
 ghost use Rattle.std.specs.Prelude.{List, ℕ, ◌<◌};
 ghost use Rattle.ring.specs.Scheme.{Positions};
 ghost use Rattle.ring_edit.specs.Homes.{Homes};

@@ -1,5 +1,7 @@
 // The three calls about a relay (document 01, "The rule of placement", "Replies"), on lent numbers: add one, remove one, set one's limit.
 // Nothing lent is written before the last refusal is decided.
+#![tactic(auto)]
+
 ghost use Rattle.std.specs.Prelude.{ℕ, ◌≤◌, length};
 ghost use Rattle.rule.specs.declared.Call.{Call};
 ghost use Rattle.rule.specs.declared.Call.TheVariants.{Add, Remove, Set};

@@ -1,5 +1,7 @@
 // What a relay call comes to before the tablets are placed (document 01, "Replies"): a refusal from 1 to 7, or the relay table as it is to be,
 // made in a table of the call's own, with its relays in ring order and the tablets' homes. Nothing lent is written here.
+#![tactic(auto)]
+
 mod found;
 mod refused;
 

@@ -1,4 +1,6 @@
 // The reply to a call as four numbers (document 01, "Replies").
+#![tactic(auto)]
+
 ghost use Rattle.std.specs.Prelude.{◌≡◌};
 ghost use Rattle.rule.specs.Refusals.{number_of};
 ghost use Rattle.reply.specs.Numbers.{reply_numbers};

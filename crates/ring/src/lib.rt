@@ -1,4 +1,6 @@
 // The ring (document 01, "The ring"): three kinds of number, the schemes, positions, and the distance clockwise.
+#![tactic(auto)]
+
 ghost use Rattle.std.specs.Prelude.{◌≡◌, ◌^◌, ◌<◌, ◌∷◌};
 ghost use Rattle.ring.specs.Fnv.{mixed, fnv, four_bytes};
 ghost use Rattle.ring.specs.Scheme.{known, position, positions};

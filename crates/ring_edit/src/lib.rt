@@ -1,5 +1,7 @@
 // The relays in ring order and every tablet's home, once one relay is put in or taken out (document 01, "The ring"). Nothing is sorted or sought
 // anew: the other relays keep their order, and a home moves by one slot at most.
+#![tactic(auto)]
+
 ghost use Rattle.std.specs.Prelude.{◌≡◌, ℕ, ◌+◌, ◌-◌, ◌^◌, ◌<◌, ◌≤◌, length, get_or};
 ghost use Rattle.ring.specs.Most.{most_relays, most_tablets};
 ghost use Rattle.ring.specs.Scheme.{positions};

@@ -1,5 +1,7 @@
 // Reading a roster (document 01, "Roster file"). The blocks are read into scratch and checked there; nothing lent is written before the last
 // refusal is decided.
+#![tactic(auto)]
+
 ghost use Rattle.std.specs.Prelude.{◌≡◌, true, ◌++◌, ◌*◌, ◌-◌, ◌≤◌, length, take, replicate};
 ghost use Rattle.ring.specs.Scheme.{known};
 ghost use Rattle.promise.specs.Promise.{Answers};

@@ -2,7 +2,7 @@
 --   redirected_none, redirected_more   a slot is taken out of the row
 --   row_keeps, row_shut                the row after one more, where the relay has room left and where it is full
 -- Assumes nothing.
-use Rattle.std.proofs.Common.{◌≡◌, ℕ, ◌+◌, ◌-◌, ◌%◌, ◌<◌, ◌≤◌, cond, eqb, ◌⊎◌, List, length, get_or, set, refl, ap, ◌∙◌, subst, inl, inr, not-suc-le-zero, arith, length-set, get_or-set_other, eq-eqb, ne_eqb}
+use Rattle.std.proofs.Common.{◌≡◌, ℕ, ◌+◌, ◌%◌, ◌<◌, ◌≤◌, cond, eqb, ◌⊎◌, List, length, get_or, set, refl, ap, ◌∙◌, subst, inl, inr, not-suc-le-zero, arith, length-set, get_or-set_other, eq-eqb, ne_eqb}
 use Rattle.ring.specs.Most.{most_relays}
 use Rattle.tables.specs.Placement.{room_less}
 use Rattle.tables.proofs.Loops.{eq_or_ne, stored}

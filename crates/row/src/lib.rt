@@ -1,5 +1,7 @@
 // The row (document 01, "The rule of placement"): from every slot of the ring it leads to the first slot with room, and it is kept so as tablets
 // are placed.
+#![tactic(auto)]
+
 ghost use Rattle.std.specs.Prelude.{◌≡◌, ◌+◌, ◌%◌, ◌<◌, ◌≤◌, length, if◌then◌else◌, nat_eq, slice_index};
 ghost use Rattle.ring.specs.Most.{most_relays};
 ghost use Rattle.tables.specs.Placement.{room_less};

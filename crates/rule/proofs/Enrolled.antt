@@ -22,7 +22,7 @@ use Rattle.rule.specs.Walks.{sat_down, greatest, stops, behind, walk, enrolled}
 use Rattle.rule.specs.Rooms.{held, fill, choose, or_zero}
 use Rattle.rule.specs.Stability.{Rising, In, Sits, lower, Fair}
 use Rattle.rule.specs.Facts.{Among, Sorted, Table, Right}
-use Rattle.rule.proofs.Counts.{at, length_insert, length_delete, above, above_fewer, count_length}
+use Rattle.rule.proofs.Counts.{length_insert, length_delete, above, above_fewer, count_length}
 use Rattle.rule.proofs.Sets.{rising_insert}
 use Rattle.rule.proofs.Exists.{left, fair_exists}
 use Rattle.rule.proofs.Enrolment.{Walk, walk_start, walk_evict, walk_settle, evict_open}

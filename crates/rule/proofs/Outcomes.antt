@@ -19,7 +19,7 @@ use Rattle.rule.specs.declared.Move.{Move}
 use Rattle.rule.specs.declared.Call.TheVariants.{Enrol, Withdraw, Find}
 use Rattle.rule.specs.Entry.{Entry, numbers, has, beside_of, insert, delete, total, count, load, first, up_to}
 use Rattle.rule.specs.Order.{order}
-use Rattle.rule.specs.Rule.{Ring, full, has_room, seat}
+use Rattle.rule.specs.Rule.{Ring, full, has_room}
 use Rattle.rule.specs.Calls.{edited, after, moved, moves, full_ahead, passed, relay_of}
 use Rattle.rule.specs.Sweeps.{seated, seats, turn, newcomer, holes}
 use Rattle.rule.specs.Stability.{Rising, In}

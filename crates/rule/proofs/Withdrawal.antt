@@ -12,7 +12,7 @@ use Rattle.rule.specs.Entry.{Entry, numbers, insert, delete, load, count}
 use Rattle.rule.specs.Rooms.{held, less, fill}
 use Rattle.rule.specs.Stability.{Rising, In, Sits, Fair, Stable}
 use Rattle.rule.proofs.Chain.{Hole, closed, refill}
-use Rattle.rule.proofs.Counts.{at, lower_insert, lower_delete, load_insert, load_delete, sits_above, sits_delete, sits_deleted}
+use Rattle.rule.proofs.Counts.{lower_insert, lower_delete, load_insert, load_delete, sits_above, sits_delete, sits_deleted}
 use Rattle.rule.proofs.Rooms.{Best, held_less}
 use Rattle.rule.proofs.Sets.{in_sits, sits_in, in_insert, insert_in, in_delete, delete_in, rising_insert, rising_delete, rising_ext}
 use Rattle.rule.proofs.Stable.{fill_stable, head_fair, tail_fair}

@@ -1,4 +1,6 @@
 // The types that document 01's definitions speak of. What a call is to do stands in `specs/`, the laws of placement in `proofs/`.
+#![tactic(auto)]
+
 ghost use Rattle.std.specs.Prelude.{◌≡◌};
 ghost use Rattle.rule.specs.Refusals.{number_of, is_done, bare_reply};
 

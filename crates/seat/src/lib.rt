@@ -1,5 +1,7 @@
 // A tablet's seat (document 01, "Replies"): its place in the table, its relay, and how many relays come before that in its clockwise
 // order, which are the steps from its home to its relay's slot.
+#![tactic(auto)]
+
 ghost use Rattle.std.specs.Prelude.{◌≡◌, ◌≤◌};
 ghost use Rattle.ring.specs.Most.{most_relays};
 ghost use Rattle.slots.specs.Slots.{steps_to};

@@ -1,5 +1,7 @@
 // Where a run of lines stands (document 01, "A drill to prove"; docs/DECISIONS.md, reading 9), and how the lines are answered that are no
 // call: the first, and one of another form.
+#![tactic(auto)]
+
 ghost use Rattle.std.specs.Prelude.{◌≡◌};
 ghost use Rattle.line.specs.Line.{scheme_of};
 ghost use Rattle.stage.specs.Stage.{is_over, Says, other, first};

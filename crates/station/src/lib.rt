@@ -1,5 +1,7 @@
 // The calls in the forms that document 01 names for what a station lends ("Forms for each place"): a tally of counts, and a list of move records.
 // The calls themselves are those on number slices.
+#![tactic(auto)]
+
 ghost use Rattle.std.specs.Prelude.{◌≡◌, ◌*◌, ◌≤◌, length};
 ghost use Rattle.ring.specs.Most.{most_tablets};
 ghost use Rattle.rule.specs.Tally.{counted};

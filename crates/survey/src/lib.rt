@@ -1,5 +1,7 @@
 // Are the lent tables right, and what does the check learn on its way (document 01, "The rule of placement")? The tablets are
 // taken by rising number; a row leads from every slot of the ring to the first slot with room.
+#![tactic(auto)]
+
 ghost use Rattle.std.specs.Prelude.{◌≡◌, true, ◌&&◌, ◌<◌, eqb, ltb, get_or};
 ghost use Rattle.ring.specs.Most.{most_relays};
 ghost use Rattle.ring.specs.Scheme.{positions};

@@ -1,6 +1,6 @@
 -- The shape of a lent table (document 01, "The lent tables"): said once for both, over the number at each place, what stands beside it
 -- (a relay's limit, a tablet's relay), and how many places there are. Assumes nothing.
-use Rattle.std.specs.Prelude.{Bool, true, ◌&&◌, cond, List, ℕ, zero, suc, ◌+◌, ◌-◌, ◌^◌, eqb, ltb, leb}
+use Rattle.std.specs.Prelude.{Bool, true, ◌&&◌, cond, List, ℕ, zero, suc, ◌+◌, ◌-◌, eqb, ltb, leb}
 use Rattle.ring.specs.Most.{top_number, most_relays, most_tablets, most_limit}
 use Rattle.tables.specs.Table.{relay_places, relay_number, relay_limit, relay_whole, tablet_places, tablet_number, tablet_relay, tablet_whole}
 

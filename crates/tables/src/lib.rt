@@ -1,5 +1,7 @@
 // The lent tables (document 01, "The lent tables"): where a relay and a tablet stand in them, and whether the places are whole and not
 // too many.
+#![tactic(auto)]
+
 ghost use Rattle.std.specs.Prelude.{◌≡◌, ◌&&◌, ◌<◌};
 ghost use Rattle.tables.specs.Table.{relay_places, relay_number, relay_limit, relay_whole, tablet_places, tablet_number, tablet_relay, tablet_whole};
 ghost use Rattle.tables.specs.Shape.{relay_fits, tablet_fits};

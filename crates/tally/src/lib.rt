@@ -1,4 +1,6 @@
 // The tally that a station lends (document 01, "Sheet, balance, tally").
+#![tactic(auto)]
+
 ghost use Rattle.std.specs.Prelude.{◌≡◌};
 ghost use Rattle.rule.specs.Tally.{more, enrolments, withdrawals, counted};
 ghost use Rattle.tally.specs.Counted.{tallied};

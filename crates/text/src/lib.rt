@@ -1,4 +1,6 @@
 // Bytes put into a lent slice, as far as it has room: of a line that is read, and of an answer to it (document 01, "A drill to prove").
+#![tactic(auto)]
+
 ghost use Rattle.std.specs.Prelude.{[], ◌∷◌, ◌≡◌};
 ghost use Rattle.text.specs.Puts.{Puts};
 

@@ -1,4 +1,6 @@
 // The published vectors of 32-bit FNV-1a: a line for each, which the gate compares with `stdout`.
+#![tactic(auto)]
+
 fn show(bytes: &[u8]) {
     let shown = io::print_hex(1, ring::hash(bytes) as u64, 8);
     if shown {

@@ -1,5 +1,7 @@
 // The library for C, and for whatever calls C: one exported function to each call. `include/wairepomuro.h` is the manual. A slice is a pointer
 // and a length, the reply is four numbers, and no function asks anything of what is lent to it.
+#![tactic(auto)]
+
 ghost use Rattle.std.specs.Prelude.{List, ◌≡◌, ℕ};
 ghost use Rattle.rule.specs.declared.Call.TheVariants.{Add, Remove, Set, Enrol, Withdraw, Find};
 ghost use Rattle.rule.specs.Refusals.{number_of};

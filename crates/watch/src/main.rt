@@ -1,11 +1,12 @@
 // Runs calls from standard input, a line to each, and answers a line as soon as it is read (document 01, "A drill to prove";
 // docs/DECISIONS.md, reading 9). What a byte of the input does is `input`'s. Here bytes are read, and answers written.
+#![tactic(auto)]
+
 ghost use Rattle.std.specs.Prelude.{[], ◌∷◌, ◌≡◌, ◌≤◌, ◌<◌, min, length, take};
 ghost use Rattle.std.proofs.lemmas.List.Edits.{sets};
 ghost use Rattle.watch.specs.Chunks.{Brings};
 
-use std::io::Read;
-use std::io::Stdin;
+use std::io::{Read, Stdin};
 
 const STDOUT: i32 = 1;
 

@@ -82,8 +82,8 @@ module _ {s : ℕ} {rs ts : List ℕ} {n m : ℕ} {v : Survey} (b : Start s rs t
       ))
 
   module _ {chain : Movers} (c : MoversAre v.home v.slot m seat.at chain) (ms : List ℕ) where
-    abbrev chain_moves : List Move
-    chain_moves = moves_of ts (tablet_relay ts seat.at) (take chain.count chain.places)
+    abbrev moved_by_chain : List Move
+    moved_by_chain = moves_of ts (tablet_relay ts seat.at) (take chain.count chain.places)
 
     moves_are : moves (positions s) (ring_of rs ts) (Withdraw t) ≡ moves_of ts (tablet_relay ts seat.at)
         (take chain.count chain.places)
@@ -123,7 +123,7 @@ module _ {s : ℕ} {rs ts : List ℕ} {n m : ℕ} {v : Survey} (b : Start s rs t
           (moves_of ts (tablet_relay ts seat.at) (take chain.count chain.places))
           × (ms' ≡ listed (moves_of ts (tablet_relay ts seat.at) (take chain.count chain.places)) ms)) where
         tablets_after : (Calls.after (positions s) (ring_of rs ts) (Withdraw t)).tablets
-            ≡ seated chain_moves (delete (tablet_number ts seat.at) (tablets_in ts m))
+            ≡ seated moved_by_chain (delete (tablet_number ts seat.at) (tablets_in ts m))
         tablets_after =
             ap (λ (x : Ring). (Calls.after (positions s) x (Withdraw t)).tablets) (start_ring b)
             ∙ withdraw_after (positions s) g (right b) t there

@@ -1,4 +1,6 @@
 // The call that withdraws a tablet (document 01, "The rule of placement", "Replies").
+#![tactic(auto)]
+
 ghost use Rattle.rule.specs.declared.Call.TheVariants.{Withdraw};
 ghost use Rattle.promise.specs.Promise.{Answers};
 ghost use Rattle.call_start.specs.Promise.{lists, after};

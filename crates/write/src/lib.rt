@@ -1,4 +1,6 @@
 // Entries put in, taken out and changed in the lent tables, once a call is accepted (document 01, "The lent tables").
+#![tactic(auto)]
+
 ghost use Rattle.std.specs.Prelude.{◌≡◌, ◌+◌, ◌-◌, ◌<◌, ◌≤◌};
 ghost use Rattle.rule.specs.Entry.{insert, delete, put};
 ghost use Rattle.tables.specs.Table.{relay_places, relay_number, relay_limit, tablet_places, tablet_number, tablet_relay};

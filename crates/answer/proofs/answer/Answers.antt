@@ -2,7 +2,6 @@
 use mathlib.Core.Path.{ap}
 use Rattle.answer.specs.Text.{number_then, reply_text, moves_text, answer_text}
 use Rattle.text.proofs.Puts.{puts_text, puts_append}
-use borrow.Author.Rules.{rules}
 use Rattle.answer.proofs.answer.Goals as goal
 
 pub returns : goal.returns

@@ -1,6 +1,5 @@
 -- `answer::echo` meets its contract. Assumes nothing.
 use Rattle.text.proofs.Puts.{puts_append}
-use borrow.Author.Rules.{rules}
 use Rattle.answer.proofs.echo.Goals as goal
 
 pub returns : goal.returns

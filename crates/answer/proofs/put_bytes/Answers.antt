@@ -1,13 +1,11 @@
 -- `answer::put_bytes` meets its contract. The loop's invariant: the bytes so far are put. The measure is how many are left. Assumes nothing.
 use mathlib.Core.List.{[], ◌∷◌, ◌++◌}
 use mathlib.Core.Path.{◌≡◌}
-use Prim.Native.Nat.{◌+◌, ◌-◌, ◌≤◌, ◌<◌}
+use Prim.Native.Nat.{◌+◌, ◌<◌}
 use native.Mathlib.Numerals.{add-one}
 use native.Mathlib.Omega.{arith}
-use borrow.Author.Rules.{rules}
 use lib.ListN.{length, take, get_or}
 use lib.Seq.{take-suc, take_all}
-use Rattle.text.specs.Puts.{Puts}
 use Rattle.text.proofs.Puts.{puts_nothing, puts_append, puts_length}
 use Rattle.answer.proofs.put_bytes.Goals as goal
 

@@ -1,7 +1,6 @@
 -- `answer::put_move` meets its contract: `m ` and three numbers, one behind the other. Assumes nothing.
 use Rattle.answer.specs.Text.{move_text, move_text_at}
 use Rattle.text.proofs.Puts.{puts_append}
-use borrow.Author.Rules.{rules}
 use Rattle.answer.proofs.put_move.Goals as goal
 
 pub returns : goal.returns

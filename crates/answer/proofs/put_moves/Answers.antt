@@ -1,11 +1,9 @@
 -- `answer::put_moves` meets its contract. The loop's invariant: the moves so far are put. The measure is how many are left. Assumes nothing.
 use mathlib.Core.List.{◌++◌}
 use mathlib.Core.Path.{◌≡◌}
-use Prim.Native.Nat.{◌+◌, ◌-◌, ◌≤◌}
+use Prim.Native.Nat.{◌+◌}
 use native.Mathlib.Numerals.{add-one}
 use native.Mathlib.Omega.{arith}
-use borrow.Author.Rules.{rules}
-use Rattle.text.specs.Puts.{Puts}
 use Rattle.answer.specs.Text.{move_text_at, moves_text}
 use Rattle.text.proofs.Puts.{puts_nothing, puts_text, puts_append, puts_within, puts_length}
 use Rattle.answer.proofs.put_moves.Goals as goal

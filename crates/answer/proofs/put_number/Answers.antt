@@ -4,7 +4,6 @@ use native.Mathlib.Omega.{arith}
 use Rattle.answer.specs.Text.{number_then}
 use Rattle.text.proofs.Puts.{puts_text, puts_append}
 use Rattle.answer.proofs.Digits.{spelled}
-use borrow.Author.Rules.{rules}
 use Rattle.answer.proofs.put_number.Goals as goal
 
 pub returns : goal.returns

@@ -2,7 +2,6 @@
 use mathlib.Core.Path.{ap}
 use mathlib.Core.Bool.{not}
 use Rattle.balance.proofs.Ranges.{fine, in_range, balances_refused, balances_done}
-use borrow.Author.Rules.{rules}
 use Rattle.balance.proofs.balance.Goals as goal
 
 pub returns-then-not-done : goal.returns-then-not-done

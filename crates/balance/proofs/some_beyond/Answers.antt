@@ -1,6 +1,5 @@
 -- `balance::some_beyond` meets its contract: the five tests, in the order of the definition. Assumes nothing.
 use mathlib.Core.Path.{◌∙◌}
-use borrow.Author.Rules.{rules}
 use Rattle.balance.proofs.some_beyond.Goals as goal
 
 pub returns : goal.returns

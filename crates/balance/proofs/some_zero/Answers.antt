@@ -1,6 +1,5 @@
 -- `balance::some_zero` meets its contract: the three tests, in the order of the definition. Assumes nothing.
 use mathlib.Core.Path.{◌∙◌}
-use borrow.Author.Rules.{rules}
 use Rattle.balance.proofs.some_zero.Goals as goal
 
 pub returns : goal.returns

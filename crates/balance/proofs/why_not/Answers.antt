@@ -2,7 +2,6 @@
 use mathlib.Core.Path.{sym}
 use Rattle.rule.specs.Refusals.{first_bar}
 use Rattle.rule.specs.Balance.{balance_refusal}
-use borrow.Author.Rules.{rules}
 use Rattle.balance.proofs.why_not.Goals as goal
 
 pub returns-then-zero : goal.returns-then-zero

@@ -1,8 +1,6 @@
 -- `call_start::check` meets its contract: what the first look refuses, or what the placement does. Assumes nothing.
 use mathlib.Core.Path.{sym, ◌∙◌}
-use borrow.Author.Tests.{not-true}
 use Rattle.call_start.proofs.Checked.{words_of, looked}
-use borrow.Author.Rules.{rules}
 use Rattle.call_start.proofs.check.Goals as goal
 
 pub returns-then-not-done : goal.returns-then-not-done
@@ -19,6 +17,6 @@ pub returns : goal.returns
 returns c =
     let v = c.look_over-survey.ensures in
     let l = looked _ _ _ c.first_look-f.ensures v.0 v.1 c.verdict.ensures
-    (words_of _ c.shared_slice_known-1.given)
-    (words_of _ c.shared_slice_known-2-1.given) in
+    (words_of _ c.type_inv.relays)
+    (words_of _ c.type_inv.tablets) in
     l.refusal

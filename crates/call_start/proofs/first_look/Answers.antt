@@ -6,7 +6,6 @@ use borrow.Author.Tests.{not-true}
 use Rattle.rule.specs.declared.Refusal.TheVariants.{SchemeUnknown, TablesNotRight}
 use Rattle.rule.specs.Refusals.{is_done}
 use Rattle.call_start.proofs.Checked.{words_of, unknown_refused, wrong_refused, barred_first, passed_first}
-use borrow.Author.Rules.{rules}
 use Rattle.call_start.proofs.first_look.Goals as goal
 
 pub returns-then-not-known : goal.returns-then-not-known
@@ -20,8 +19,8 @@ unfolding is_done
 returns-then-not-s c =
     let wrong = c.shapes-s.ensures.wrong (not-true _ c.if-not-s.true) _ in
     barred_first _ _ _ _ TablesNotRight refl c.barred-then-not-s.ensures
-    (wrong_refused _ _ _ (words_of _ c.shared_slice_known-1.given)
-    (words_of _ c.shared_slice_known-2-1.given)
+    (wrong_refused _ _ _ (words_of _ c.type_inv.relays)
+    (words_of _ c.type_inv.tablets)
     c.scheme_known-known.ensures (ap not c.if-not-known.false) wrong)
 
 pub returns : goal.returns

@@ -1,7 +1,6 @@
 -- `call_start::look` meets its contract: what the first look refuses, or what the placement does, and past both the survey is of right tables.
 -- Assumes nothing.
 use Rattle.call_start.proofs.Checked.{words_of, looked}
-use borrow.Author.Rules.{rules}
 use Rattle.call_start.proofs.look.Goals as goal
 
 pub look_over-survey-requires : goal.look_over-survey-requires
@@ -13,5 +12,5 @@ pub returns : goal.returns
 returns c =
     let v = c.look_over-survey.ensures in
     looked _ _ _ c.first_look-f.ensures v.0 v.1 c.verdict-refusal.ensures
-    (words_of _ c.shared_slice_known-1.given)
-    (words_of _ c.shared_slice_known-2-1.given)
+    (words_of _ c.type_inv.relays)
+    (words_of _ c.type_inv.tablets)

@@ -1,5 +1,4 @@
 -- `calls::add` meets its contract: the call, and its count. Assumes nothing.
-use borrow.Author.Rules.{rules}
 use Rattle.calls.proofs.Kept.{keeps}
 use Rattle.calls.proofs.add.Goals as goal
 

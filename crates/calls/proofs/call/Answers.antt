@@ -1,5 +1,4 @@
 -- `calls::call` meets its contract, call by call. Assumes nothing.
-use borrow.Author.Rules.{rules}
 use Rattle.calls.proofs.call.Goals as goal
 
 pub returns-in-Add : goal.returns-in-Add

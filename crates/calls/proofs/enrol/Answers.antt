@@ -1,5 +1,4 @@
 -- `calls::enrol` meets its contract: the call, and its count. Assumes nothing.
-use borrow.Author.Rules.{rules}
 use Rattle.calls.proofs.Kept.{keeps}
 use Rattle.calls.proofs.enrol.Goals as goal
 

@@ -1,5 +1,4 @@
 -- `calls::find` meets its contract: the call, and its count. Assumes nothing.
-use borrow.Author.Rules.{rules}
 use Rattle.calls.proofs.Kept.{keeps}
 use Rattle.calls.proofs.find.Goals as goal
 

@@ -1,5 +1,4 @@
 -- `calls::set` meets its contract: the call, and its count. Assumes nothing.
-use borrow.Author.Rules.{rules}
 use Rattle.calls.proofs.Kept.{keeps}
 use Rattle.calls.proofs.set.Goals as goal
 

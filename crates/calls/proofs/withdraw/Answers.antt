@@ -1,5 +1,4 @@
 -- `calls::withdraw` meets its contract: the call, and its count. Assumes nothing.
-use borrow.Author.Rules.{rules}
 use Rattle.calls.proofs.Kept.{keeps}
 use Rattle.calls.proofs.withdraw.Goals as goal
 

@@ -4,7 +4,6 @@ use mathlib.Core.Path.{ap}
 use borrow.Author.Tests.{eq-eqb, ne_eqb}
 use lib.Dec.{ltb}
 use Rattle.chain.specs.Visit.{gives_way}
-use borrow.Author.Rules.{rules}
 use Rattle.chain.proofs.gives_way.Goals as goal
 
 pub returns-then-l-eq0 : goal.returns-then-l-eq0

@@ -2,7 +2,6 @@
 -- Assumes nothing.
 use borrow.Author.Tests.{eq-eqb, ne_eqb}
 use Rattle.chain.specs.Chain.{next_slot}
-use borrow.Author.Rules.{rules}
 use Rattle.chain.proofs.next_slot.Goals as goal
 
 pub returns-then-k-n : goal.returns-then-k-n

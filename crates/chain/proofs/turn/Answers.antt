@@ -2,23 +2,8 @@
 -- passed, and the walker is who is kept last. The measure is what is left of the steps to the first slot with room.
 -- Assumes nothing.
 use mathlib.Core.Path.{refl}
-use Prim.Native.Nat.{◌-◌}
 use native.Mathlib.Omega.{arith}
-use Rattle.slots.specs.Slots.{steps_to}
-use Rattle.chain.proofs.Turns.{
-  Going,
-  going_start,
-  slot_small,
-  more_steps,
-  room_for_one,
-  last_small,
-  place_there,
-  going_more,
-  going_end,
-  steps_few,
-  few_relays_lem,
-}
-use borrow.Author.Rules.{rules}
+use Rattle.chain.proofs.Turns.{going_start, slot_small, more_steps, room_for_one, last_small, place_there, going_more, going_end, steps_few, few_relays_lem}
 use Rattle.chain.proofs.turn.Goals as goal
 
 pub loop-k-init : goal.loop-k-init

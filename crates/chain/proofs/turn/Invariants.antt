@@ -1,24 +1,9 @@
 -- `chain::turn` meets its contract. The invariant (`Going`): d steps from the home, the arrays hold the chain of the turn over the relays
 -- passed, and the walker is who is kept last. The measure is what is left of the steps to the first slot with room.
 -- Assumes nothing.
-use mathlib.Core.Path.{refl}
 use Prim.Native.Nat.{◌-◌}
-use native.Mathlib.Omega.{arith}
 use Rattle.slots.specs.Slots.{steps_to}
-use Rattle.chain.proofs.Turns.{
-  Going,
-  going_start,
-  slot_small,
-  more_steps,
-  room_for_one,
-  last_small,
-  place_there,
-  going_more,
-  going_end,
-  steps_few,
-  few_relays_lem,
-}
-use borrow.Author.Rules.{rules}
+use Rattle.chain.proofs.Turns.{Going}
 use Rattle.chain.proofs.turn.Given as goal
 
 abbrev pub invariant-loop-k : goal.invariant-loop-k

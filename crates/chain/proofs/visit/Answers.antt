@@ -2,7 +2,6 @@
 -- Assumes nothing.
 use mathlib.Core.Path.{refl, sym, ◌∙◌}
 use Rattle.chain.proofs.Arrays.{way_some, visited_yes, visited_no}
-use borrow.Author.Rules.{rules}
 use Rattle.chain.proofs.visit.Goals as goal
 
 pub sit_down-requires : goal.sit_down-requires

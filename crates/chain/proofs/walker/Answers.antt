@@ -7,7 +7,6 @@ use native.Mathlib.Omega.{arith}
 use lib.ListN.{get_or}
 use Rattle.tables.specs.Table.{tablet_number}
 use Rattle.chain.specs.Chain.{name_at}
-use borrow.Author.Rules.{rules}
 use Rattle.chain.proofs.walker.Goals as goal
 
 none : (x : ℕ) (ts place : List ℕ) (c : ℕ) → c ≡ 0 → x ≡ name_at x ts place c

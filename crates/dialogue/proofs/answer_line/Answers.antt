@@ -4,7 +4,6 @@ use Rattle.text.proofs.Puts.{puts_nothing}
 use Rattle.dialogue.specs.Lines.{answered}
 use Rattle.stage.proofs.Says.{says_text}
 use Rattle.dialogue.proofs.Answers.{shows_said}
-use borrow.Author.Rules.{rules}
 use Rattle.dialogue.proofs.answer_line.Goals as goal
 
 pub returns-in-First : goal.returns-in-First

@@ -2,7 +2,6 @@
 use mathlib.Core.Path.{sym}
 use Rattle.dialogue.specs.Lines.{under}
 use Rattle.dialogue.proofs.Answers.{shows_said, shows_call}
-use borrow.Author.Rules.{rules}
 use Rattle.dialogue.proofs.next_line.Goals as goal
 
 pub returns-in-Call : goal.returns-in-Call

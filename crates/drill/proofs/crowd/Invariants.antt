@@ -1,6 +1,5 @@
 -- `drill::crowd` is safe and ends: the relay that is written goes up with the place. Assumes nothing.
 use Prim.Native.Nat.{◌+◌, ◌-◌, ◌≤◌}
-use borrow.Author.Rules.{rules}
 use Rattle.drill.proofs.crowd.Given as goal
 
 abbrev pub invariant-loop-i : goal.invariant-loop-i

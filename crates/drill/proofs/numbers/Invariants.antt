@@ -1,6 +1,5 @@
 -- `drill::numbers` is safe and ends: a record's numbers have their places in the list of numbers. Assumes nothing.
 use Prim.Native.Nat.{◌-◌, ◌≤◌}
-use borrow.Author.Rules.{rules}
 use Rattle.drill.proofs.numbers.Given as goal
 
 abbrev pub invariant-loop-i : goal.invariant-loop-i

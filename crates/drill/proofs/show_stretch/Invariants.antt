@@ -1,7 +1,6 @@
 -- `drill::show_stretch` is safe and ends: every number of the part is printed. Assumes nothing.
 use Prim.Native.Nat.{◌-◌, ◌≤◌}
 use lib.ListN.{length}
-use borrow.Author.Rules.{rules}
 use Rattle.drill.proofs.show_stretch.Given as goal
 
 abbrev pub invariant-loop-i : goal.invariant-loop-i

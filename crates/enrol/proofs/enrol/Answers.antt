@@ -10,7 +10,6 @@ use Rattle.call_start.proofs.Refusals.{refused_answers}
 use Rattle.newcomer.specs.Newcomer.{Worked, Prepared}
 use Rattle.newcomer.proofs.Prepared.{test_false, test_true}
 use Rattle.enrol.proofs.Written.{place_still, enrolled_answers}
-use borrow.Author.Rules.{rules}
 use Rattle.enrol.proofs.enrol.Goals as goal
 use Rattle.enrol.proofs.enrol.Goals.{After-prepare-p, Else-not-done}
 

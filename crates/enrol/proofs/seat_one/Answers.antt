@@ -1,7 +1,6 @@
 -- `enrol::seat_one` meets its contract: a move is listed and a relay written, each by its own function's.
 -- Assumes nothing.
 use Rattle.enrol.proofs.Seated.{sat_down_lem}
-use borrow.Author.Rules.{rules}
 use Rattle.enrol.proofs.seat_one.Goals as goal
 
 pub returns : goal.returns

@@ -1,11 +1,9 @@
 -- `enrol::seat_others` meets its contract. The invariant: the first c of those who gave way are seated in the table and listed, and every number
 -- of the table stands where it stood.
 -- Assumes nothing.
-use Prim.Native.Nat.{ℕ, ◌+◌, ◌-◌, ◌≤◌}
+use Prim.Native.Nat.{◌+◌}
 use native.Mathlib.Omega.{arith}
-use Rattle.enrol.specs.Enrol.{OthersSeated}
 use Rattle.enrol.proofs.Seated.{climbs_still, seating_start, seating_more, places_still, list_length, sat_at, seated_all}
-use borrow.Author.Rules.{rules}
 use Rattle.enrol.proofs.seat_others.Goals as goal
 
 pub loop-c-init : goal.loop-c-init
@@ -39,8 +37,7 @@ seat_one-requires c =
     let l = c.loop-c in
     let b = c.loop-c-test.true in
     let s = l.invariant.1 0 in
-    let r = c.requires in
-    (
+    let r = c.requires in (
       omega (
         arith,
         c.from_u16-j.ensures.0,
@@ -61,15 +58,14 @@ pub loop-c-smaller : goal.loop-c-smaller
 loop-c-smaller c = omega (arith, c.loop-c-test.true)
 
 pub loop-c-preserved : goal.loop-c-preserved
-loop-c-preserved c =
-    (
-      omega (arith, c.loop-c-test.true),
-      λ x. seating_more x _ _ _ _ _ _ _ (c.loop-c.invariant.1 x)
-          (omega (arith, c.requires.list, c.loop-c-test.true))
-          (sat_at c.seat_one.ensures
-          c.from_u16-j.ensures.0
-          c.from_u8-old.ensures.0 c.from_u8-new.ensures.0),
-    )
+loop-c-preserved c = (
+  omega (arith, c.loop-c-test.true),
+  λ x. seating_more x _ _ _ _ _ _ _ (c.loop-c.invariant.1 x)
+      (omega (arith, c.requires.list, c.loop-c-test.true))
+      (sat_at c.seat_one.ensures
+      c.from_u16-j.ensures.0
+      c.from_u8-old.ensures.0 c.from_u8-new.ensures.0),
+)
 
 pub shape_of-tablets : goal.shape_of-tablets
 shape_of-tablets c = (c.loop-c.invariant.1 0).size

@@ -1,11 +1,8 @@
 -- `enrol::seat_others` meets its contract. The invariant: the first c of those who gave way are seated in the table and listed, and every number
 -- of the table stands where it stood.
 -- Assumes nothing.
-use Prim.Native.Nat.{ℕ, ◌+◌, ◌-◌, ◌≤◌}
-use native.Mathlib.Omega.{arith}
+use Prim.Native.Nat.{ℕ, ◌-◌, ◌≤◌}
 use Rattle.enrol.specs.Enrol.{OthersSeated}
-use Rattle.enrol.proofs.Seated.{climbs_still, seating_start, seating_more, places_still, list_length, sat_at, seated_all}
-use borrow.Author.Rules.{rules}
 use Rattle.enrol.proofs.seat_others.Given as goal
 
 abbrev pub invariant-loop-c : goal.invariant-loop-c

@@ -1,10 +1,8 @@
 -- `entries::relay_edge` meets its contract. The invariant: the numbers stop from `low` to `high`. The measure is how many places are left
 -- between them. Assumes nothing.
 use Prim.Native.Nat.{◌-◌}
-use native.Mathlib.Omega.{arith}
 use Rattle.tables.specs.Table.{relay_places, relay_number}
 use Rattle.entries.specs.Entries.{Edge}
-use Rattle.entries.proofs.Edge.{edge_start, edge_low, edge_high, edge_end}
 use Rattle.entries.proofs.relay_edge.Given as goal
 
 abbrev pub invariant-loop-low : goal.invariant-loop-low

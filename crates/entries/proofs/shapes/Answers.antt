@@ -1,7 +1,6 @@
 -- `entries::shapes` meets its contract: the two tests, in their order. Assumes nothing.
 use Rattle.entries.proofs.Found.{relays_wrong, tablets_wrong}
 use Rattle.entries.proofs.Shaped.{no_shapes_are, shapes_are}
-use borrow.Author.Rules.{rules}
 use Rattle.entries.proofs.shapes.Goals as goal
 
 pub returns-then-not-r : goal.returns-then-not-r

@@ -1,9 +1,6 @@
 -- `entries::tablet_edge` meets its contract. The invariant: the numbers stop from `low` to `high`. The measure is how many places are left
 -- between them. Assumes nothing.
-use Prim.Native.Nat.{◌-◌}
 use native.Mathlib.Omega.{arith}
-use Rattle.tables.specs.Table.{tablet_places, tablet_number}
-use Rattle.entries.specs.Entries.{Edge}
 use Rattle.entries.proofs.Edge.{edge_start, edge_low, edge_high, edge_end}
 use Rattle.entries.proofs.tablet_edge.Goals as goal
 

@@ -6,7 +6,6 @@ use Rattle.call_start.proofs.Ways.{look_start, look_answers}
 use Rattle.seat.proofs.Slotted.{start_slotted}
 use Rattle.seat.proofs.Replies.{missing_find, seat_refused}
 use Rattle.find.proofs.Outcomes.{find_found}
-use borrow.Author.Rules.{rules}
 use Rattle.find.proofs.find.Goals as goal
 
 pub returns-then-not-done : goal.returns-then-not-done

@@ -1,8 +1,8 @@
 -- `holes::holes` meets its contract. The loop's invariant (`Swept`): the places noted are the first of those who move, and place j is the next
 -- to move. Each relay that was left has its last tablet before that of the next, so no more move than there are relays. The measure is what is
 -- left of the tablets. Assumes nothing.
-use Rattle.std.proofs.Common.{◌-◌, refl, arith}
-use Rattle.holes.proofs.Sweeps.{Swept, swept_few, sweep_start, sweep_on, sweep_end}
+use Rattle.std.proofs.Common.{refl, arith}
+use Rattle.holes.proofs.Sweeps.{swept_few, sweep_start, sweep_on, sweep_end}
 use Rattle.holes.proofs.holes.Goals as goal
 
 pub next_mover-j-requires : goal.next_mover-j-requires

@@ -1,5 +1,5 @@
 -- `holes::next_mover` meets its contract: nobody had passed a relay with room, and past another the places are searched. Assumes nothing.
-use Rattle.std.proofs.Common.{ℕ, get_or, ap, ◌∙◌, arith, rules}
+use Rattle.std.proofs.Common.{ℕ, get_or, ap, ◌∙◌, arith}
 use Rattle.order.specs.Keys.{slot_relay}
 use Rattle.row.specs.Row.{slot_room}
 use Rattle.holes.proofs.Sweeps.{next_at_once}

@@ -1,8 +1,8 @@
 -- `holes::next_passed` meets its contract. The loop's invariant (`Seeking`): nobody behind place i and before place j had passed the hole.
 -- The measure is what is left of the tablets. Assumes nothing.
-use Rattle.std.proofs.Common.{◌-◌, sym, ◌∙◌, arith}
+use Rattle.std.proofs.Common.{sym, ◌∙◌, arith}
 use Rattle.holes.specs.Holes.{passed_at}
-use Rattle.holes.proofs.Sweeps.{Seeking, seek_start, seek_on, seek_found, seek_end}
+use Rattle.holes.proofs.Sweeps.{seek_start, seek_on, seek_found, seek_end}
 use Rattle.holes.proofs.next_passed.Goals as goal
 
 pub bounds-slot-i : goal.bounds-slot-i

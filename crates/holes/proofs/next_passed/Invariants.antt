@@ -1,8 +1,7 @@
 -- `holes::next_passed` meets its contract. The loop's invariant (`Seeking`): nobody behind place i and before place j had passed the hole.
 -- The measure is what is left of the tablets. Assumes nothing.
-use Rattle.std.proofs.Common.{◌-◌, sym, ◌∙◌, arith}
-use Rattle.holes.specs.Holes.{passed_at}
-use Rattle.holes.proofs.Sweeps.{Seeking, seek_start, seek_on, seek_found, seek_end}
+use Rattle.std.proofs.Common.{◌-◌}
+use Rattle.holes.proofs.Sweeps.{Seeking}
 use Rattle.holes.proofs.next_passed.Given as goal
 
 abbrev pub invariant-loop-j : goal.invariant-loop-j

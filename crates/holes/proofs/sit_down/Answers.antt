@@ -1,7 +1,7 @@
 -- `holes::sit_down` meets its contract. The loop's invariant (`Sitting`): the first c sit down and are listed, the relay that the last of them
 -- left is the next one's, and those to come sit where they sat. The measure is how many are to come. Assumes nothing.
-use Rattle.std.proofs.Common.{◌-◌, arith, rules}
-use Rattle.holes.proofs.Seated.{Sitting, sit_start, sit_climbs, sit_there, sit_long, sit_on, sit_end}
+use Rattle.std.proofs.Common.{arith}
+use Rattle.holes.proofs.Seated.{sit_start, sit_climbs, sit_there, sit_long, sit_on, sit_end}
 use Rattle.holes.proofs.sit_down.Goals as goal
 
 pub loop-c-init : goal.loop-c-init
@@ -44,19 +44,18 @@ list_move-requires c =
     )
 
 pub seat_tablet-requires : goal.seat_tablet-requires
-seat_tablet-requires c =
-    (
-      omega (
-        arith,
-        c.from_u16-j.ensures.0,
-        c.requires.below _
-            c.loop-c-test.true,
-      ),
-      sit_there _ _ _ _ _ _ c.requires
-          c.loop-c.invariant,
-      sit_climbs _ _ _ _ _ _ c.requires
-          c.loop-c.invariant,
-    )
+seat_tablet-requires c = (
+  omega (
+    arith,
+    c.from_u16-j.ensures.0,
+    c.requires.below _
+        c.loop-c-test.true,
+  ),
+  sit_there _ _ _ _ _ _ c.requires
+      c.loop-c.invariant,
+  sit_climbs _ _ _ _ _ _ c.requires
+      c.loop-c.invariant,
+)
 
 pub overflow_add-c : goal.overflow_add-c
 overflow_add-c c =

@@ -1,7 +1,7 @@
 -- `holes::sit_down` meets its contract. The loop's invariant (`Sitting`): the first c sit down and are listed, the relay that the last of them
 -- left is the next one's, and those to come sit where they sat. The measure is how many are to come. Assumes nothing.
-use Rattle.std.proofs.Common.{◌-◌, arith, rules}
-use Rattle.holes.proofs.Seated.{Sitting, sit_start, sit_climbs, sit_there, sit_long, sit_on, sit_end}
+use Rattle.std.proofs.Common.{◌-◌}
+use Rattle.holes.proofs.Seated.{Sitting}
 use Rattle.holes.proofs.sit_down.Given as goal
 
 abbrev pub invariant-loop-c : goal.invariant-loop-c

@@ -1,8 +1,6 @@
 -- `home::advance` meets its contract. The invariant: a walk to x may begin at k. Assumes nothing.
 use Prim.Native.Nat.{◌-◌}
 use Rattle.home.specs.Home.{Begins}
-use Rattle.home.proofs.Walk.{begins_more, home_here}
-use native.Mathlib.Omega.{arith}
 use Rattle.home.proofs.advance.Given as goal
 
 abbrev pub invariant-loop-k : goal.invariant-loop-k

@@ -1,12 +1,9 @@
 -- `home::arc_starts` meets its contract. The invariant: the starts of the first b arcs are right, and a walk to arc b may begin at slot k. The
 -- measure is how many slots are left. Assumes nothing.
-use mathlib.Core.Path.{◌≡◌, refl, ◌∙◌}
+use mathlib.Core.Path.{◌≡◌}
 use Prim.Native.Nat.{◌*◌, ◌-◌, ◌≤◌}
-use native.Mathlib.Omega.{arith}
 use lib.ListN.{length}
 use Rattle.home.specs.Home.{key_at, Begins, arcs, arc, Starts}
-use Rattle.home.proofs.Walk.{begins_none, starts_none, starts_end}
-use Rattle.home.proofs.Arcs.{starts_zeros, starts_marked, begins_past}
 use Rattle.home.proofs.arc_starts.Given as goal
 
 abbrev pub invariant-loop-k : goal.invariant-loop-k

@@ -1,9 +1,8 @@
 -- `home::mark` meets its contract. The invariant: the arcs from `from` up to b are marked, and those before are as they were. The measure
 -- is how many arcs are left. Assumes nothing.
 use Prim.Native.Nat.{◌-◌, ◌≤◌}
-use native.Mathlib.Omega.{arith}
 use Rattle.home.specs.Home.{arcs}
-use Rattle.home.proofs.Arcs.{Marks, marks_none, marks_more, marks_end}
+use Rattle.home.proofs.Arcs.{Marks}
 use Rattle.home.proofs.mark.Given as goal
 
 abbrev pub invariant-loop-b : goal.invariant-loop-b

@@ -3,7 +3,6 @@ use mathlib.Core.Path.{sym}
 use native.Mathlib.Omega.{arith}
 use lib.Seq.{take_all}
 use Rattle.input.proofs.Takes.{take_part}
-use borrow.Author.Rules.{rules}
 use Rattle.input.proofs.kept_part.Goals as goal
 
 pub returns-then-line-kept : goal.returns-then-line-kept

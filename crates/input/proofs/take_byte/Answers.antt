@@ -1,6 +1,5 @@
 -- `input::take_byte` meets its contract, for a newline and for any other byte. Assumes nothing.
 use Rattle.input.proofs.Takes.{takes_end, takes_kept}
-use borrow.Author.Rules.{rules}
 use Rattle.input.proofs.take_byte.Goals as goal
 
 pub returns-then-b-eq10 : goal.returns-then-b-eq10

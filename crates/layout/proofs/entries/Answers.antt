@@ -1,9 +1,8 @@
 -- `layout::entries` meets its contract. The invariant: the first i places of the table are the first i entries of the block. Assumes nothing.
-use mathlib.Core.Path.{◌≡◌, refl}
-use Prim.Native.Nat.{◌*◌, ◌-◌, ◌≤◌}
+use mathlib.Core.Path.{refl}
 use native.Mathlib.Omega.{arith}
 use borrow.Author.Rules.{rules}
-use lib.ListN.{length, take, length-set}
+use lib.ListN.{length-set}
 use Rattle.meaning.specs.Meaning.{places}
 use Rattle.write.specs.Tables.{flat}
 use Rattle.layout.specs.Roster.{block}

@@ -1,13 +1,9 @@
 -- `layout::entries` meets its contract. The invariant: the first i places of the table are the first i entries of the block. Assumes nothing.
-use mathlib.Core.Path.{◌≡◌, refl}
+use mathlib.Core.Path.{◌≡◌}
 use Prim.Native.Nat.{◌*◌, ◌-◌, ◌≤◌}
-use native.Mathlib.Omega.{arith}
-use borrow.Author.Rules.{rules}
-use lib.ListN.{length, take, length-set}
-use Rattle.meaning.specs.Meaning.{places}
+use lib.ListN.{length, take}
 use Rattle.write.specs.Tables.{flat}
 use Rattle.layout.specs.Roster.{block}
-use Rattle.layout.proofs.Rows.{entries_more, entries_all}
 use Rattle.layout.proofs.entries.Given as goal
 
 abbrev pub invariant-loop-i : goal.invariant-loop-i

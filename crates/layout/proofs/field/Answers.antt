@@ -1,5 +1,4 @@
 -- `layout::field` meets its contract: the trailer is the last twenty bytes. Assumes nothing.
-use borrow.Author.Rules.{rules}
 use Rattle.layout.specs.Roster.{field}
 use Rattle.layout.proofs.field.Goals as goal
 

@@ -1,6 +1,5 @@
 -- `layout::number_at` meets its contract: four bytes, each below 256. Assumes nothing.
 use native.Mathlib.Omega.{arith}
-use borrow.Author.Rules.{rules}
 use Rattle.layout.specs.Numbers.{number_at}
 use Rattle.layout.proofs.number_at.Goals as goal
 

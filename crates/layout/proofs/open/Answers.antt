@@ -1,5 +1,4 @@
 -- `layout::open` meets its contract: bytes too short for a trailer say nothing, and others what the five fields say. Assumes nothing.
-use borrow.Author.Rules.{rules}
 use Rattle.layout.proofs.Trailers.{short_trailer, long_trailer}
 use Rattle.layout.proofs.open.Goals as goal
 

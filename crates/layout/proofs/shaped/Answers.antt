@@ -1,5 +1,4 @@
 -- `layout::shaped` meets its contract: each way out is the first test that fails, and the last test is the answer. Assumes nothing.
-use borrow.Author.Rules.{rules}
 use Rattle.layout.proofs.Trailers.{relays_many, tablets_many, tablets_off, relays_off, length_left}
 use Rattle.layout.proofs.shaped.Goals as goal
 

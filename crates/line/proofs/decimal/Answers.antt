@@ -3,7 +3,6 @@ use mathlib.Core.Path.{sym, ap, ◌∙◌}
 use native.Mathlib.Omega.{arith}
 use Rattle.line.specs.declared.Number.TheVariants.{Is}
 use Rattle.line.proofs.Decimals.{decimal_empty, decimal_zero, decimal_is, decimal_not}
-use borrow.Author.Rules.{rules}
 use Rattle.line.proofs.decimal.Goals as goal
 
 pub returns-then-word-eq0 : goal.returns-then-word-eq0

@@ -1,5 +1,4 @@
 -- `line::known_or_other` meets its contract. Assumes nothing.
-use mathlib.Core.Path.{sym, ◌∙◌}
 use Rattle.line.specs.Line.{known_or}
 use borrow.Author.Rules.{rules}
 use Rattle.line.proofs.known_or_other.Goals as goal

@@ -1,6 +1,5 @@
 -- `line::leading_zero` meets its contract: only a word of two bytes or more has one. Assumes nothing.
 use mathlib.Core.Path.{sym}
-use borrow.Author.Rules.{rules}
 use Rattle.line.proofs.Decimals.{leading_short, leading_long}
 use Rattle.line.proofs.leading_zero.Goals as goal
 

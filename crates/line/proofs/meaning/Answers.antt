@@ -1,7 +1,6 @@
 -- `line::meaning` meets its contract: a call has a letter, a space and what stands behind them. Assumes nothing.
 use mathlib.Core.Path.{sym, ◌∙◌}
 use Rattle.line.proofs.Words.{part_rest, meaning_short, meaning_unspaced, meaning_spaced}
-use borrow.Author.Rules.{rules}
 use Rattle.line.proofs.meaning.Goals as goal
 
 pub returns-then-line-lt2 : goal.returns-then-line-lt2

@@ -1,10 +1,8 @@
 -- `line::scheme_of` meets its contract: a first line begins with `scheme` and a space. Assumes nothing.
 use mathlib.Core.Path.{sym, ap, ◌∙◌}
-use borrow.Author.Tests.{not-true, not-false}
 use Rattle.ring.proofs.Tests.{true_false}
 use Rattle.line.specs.Line.{scheme_word, known_or}
 use Rattle.line.proofs.Firsts.{scheme_short, scheme_other, scheme_named}
-use borrow.Author.Rules.{rules}
 use Rattle.line.proofs.scheme_of.Goals as goal
 
 pub returns-then-line-lt7 : goal.returns-then-line-lt7

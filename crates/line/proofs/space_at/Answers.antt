@@ -1,5 +1,5 @@
 -- `line::space_at` meets its contract. Assumes nothing.
-use Rattle.std.proofs.Common.{◌≡◌, suc, ◌+◌, ◌<◌, ◌≤◌, ℕ, List, length, get_or, drop, cond, eqb, refl, sym, ap, ◌∙◌, add-one, drop-cons, drop_of_length-le, arith, eq-eqb, ne_eqb}
+use Rattle.std.proofs.Common.{◌≡◌, suc, ◌+◌, ◌<◌, ◌≤◌, ℕ, List, length, get_or, drop, refl, add-one, drop-cons, drop_of_length-le, arith, ne_eqb}
 use Rattle.line.specs.Line.{space_at}
 use Rattle.line.proofs.space_at.Goals as goal
 

@@ -1,12 +1,9 @@
 -- `line::value` meets its contract. The loop's invariant: what the whole word grows to is what the bytes that are left make of the number so
 -- far. The measure is how many are left. Assumes nothing.
-use mathlib.Core.Path.{◌≡◌, refl, sym, ap, ◌∙◌}
-use Prim.Native.Nat.{◌≤◌, ◌+◌, ◌-◌}
-use native.Mathlib.Omega.{arith}
-use borrow.Author.Rules.{rules}
-use lib.ListN.{length, get_or, drop, drop_of_length-le}
+use mathlib.Core.Path.{◌≡◌}
+use Prim.Native.Nat.{◌≤◌, ◌-◌}
+use lib.ListN.{length, drop}
 use Rattle.line.specs.Decimal.{with_bytes}
-use Rattle.line.proofs.Decimals.{byte_most, byte_next}
 use Rattle.line.proofs.value.Given as goal
 
 abbrev pub invariant-loop-i : goal.invariant-loop-i

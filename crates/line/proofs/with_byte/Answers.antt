@@ -1,9 +1,8 @@
 -- `line::with_byte` meets its contract: the tests that led to a return pick the case. Assumes nothing.
 use mathlib.Core.Path.{sym, ◌∙◌}
-use borrow.Author.Tests.{lt-ltb, le-ltb, not-true, not-false}
+use borrow.Author.Tests.{lt-ltb, le-ltb}
 use Rattle.line.specs.Decimal.{with_byte}
 use Rattle.line.proofs.Decimals.{digit_least}
-use borrow.Author.Rules.{rules}
 use Rattle.line.proofs.with_byte.Goals as goal
 
 pub returns-then-not-digit : goal.returns-then-not-digit

@@ -1,6 +1,4 @@
 -- `line::with_one` meets its contract: the letter picks the call. Assumes nothing.
-use mathlib.Core.Path.{sym}
-use borrow.Author.Tests.{ne_eqb}
 use Rattle.line.specs.Line.{with_one}
 use borrow.Author.Rules.{rules}
 use Rattle.line.proofs.with_one.Goals as goal

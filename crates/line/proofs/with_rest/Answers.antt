@@ -4,7 +4,6 @@ use mathlib.Core.List.{[], ◌∷◌}
 use native.Mathlib.Omega.{arith}
 use Rattle.line.specs.Line.{letter_of}
 use Rattle.line.proofs.Words.{rest_one, rest_two}
-use borrow.Author.Rules.{rules}
 use Rattle.line.proofs.with_rest.Goals as goal
 
 pub returns-then-end-rest : goal.returns-then-end-rest

@@ -1,6 +1,4 @@
 -- `line::with_two` meets its contract: the letter picks the call. Assumes nothing.
-use mathlib.Core.Path.{sym}
-use borrow.Author.Tests.{ne_eqb}
 use Rattle.line.specs.Line.{with_two}
 use borrow.Author.Rules.{rules}
 use Rattle.line.proofs.with_two.Goals as goal

@@ -1,9 +1,7 @@
 -- `lookup::tablet_spot` meets its contract. The loop's invariant (`Halves`): the numbers before `low` are below the one looked for, and those
 -- from `high` on are not. The measure is how many places are left between them. Assumes nothing.
-use Prim.Native.Nat.{◌-◌}
 use native.Mathlib.Omega.{arith}
-use Rattle.tables.specs.Table.{tablet_number}
-use Rattle.lookup.proofs.Halves.{Halves, halves_start, halves_low, halves_high, halves_end}
+use Rattle.lookup.proofs.Halves.{halves_start, halves_low, halves_high, halves_end}
 use Rattle.lookup.proofs.tablet_spot.Goals as goal
 
 pub loop-low-init : goal.loop-low-init

@@ -1,7 +1,6 @@
 -- `lookup::tablet_there` meets its contract: the number is there exactly where it stands at its place, which a search found. Assumes nothing.
 use native.Mathlib.Omega.{arith}
 use Rattle.lookup.proofs.There.{there_at, there_past}
-use borrow.Author.Rules.{rules}
 use Rattle.lookup.proofs.tablet_there.Goals as goal
 
 pub returns-then-at-m : goal.returns-then-at-m

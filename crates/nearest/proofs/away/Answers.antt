@@ -1,7 +1,6 @@
 -- `nearest::away` meets its contract: the distance is to where the slot's key says. Assumes nothing.
 use mathlib.Core.Path.{ap, ◌∙◌}
 use Rattle.ring.specs.Clockwise.{clockwise, distance}
-use borrow.Author.Rules.{rules}
 use Rattle.nearest.proofs.away.Goals as goal
 
 pub returns : goal.returns

@@ -1,8 +1,6 @@
 -- `nearest::home` meets its contract. The invariant: of the first k slots p comes to `first` first, and `least` is how far that is. Assumes nothing.
 use Prim.Native.Nat.{◌-◌}
-use mathlib.Core.Logic.{⊎_elim}
-use native.Mathlib.Omega.{arith}
-use Rattle.nearest.proofs.Nearer.{Scanned, scanned_one, scanned_closer, scanned_stays, scanned_end}
+use Rattle.nearest.proofs.Nearer.{Scanned}
 use Rattle.nearest.proofs.home.Given as goal
 
 abbrev pub invariant-loop-k : goal.invariant-loop-k

@@ -1,6 +1,5 @@
 -- `nearest::sooner` meets its contract: equal distances go by slot, others by distance. Assumes nothing.
 use mathlib.Core.Path.{sym, ◌∙◌}
-use borrow.Author.Rules.{rules}
 use Rattle.ring.proofs.Order.{sooner_tie}
 use Rattle.nearest.proofs.Nearer.{sooner_apart}
 use Rattle.nearest.proofs.sooner.Goals as goal

@@ -21,7 +21,6 @@ use Rattle.newcomer.proofs.Prepared.{
   short_plan,
   whole_plan,
 }
-use borrow.Author.Rules.{rules}
 use Rattle.newcomer.proofs.prepare.Goals as goal
 use Rattle.newcomer.proofs.prepare.Goals.{After-newcomer_refusal-bar, Else-not-done, Else-not-done-2}
 

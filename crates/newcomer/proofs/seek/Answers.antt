@@ -2,7 +2,6 @@
 -- Assumes nothing.
 use native.Mathlib.Omega.{arith}
 use Rattle.newcomer.proofs.Outcomes.{seeks}
-use borrow.Author.Rules.{rules}
 use Rattle.newcomer.proofs.seek.Goals as goal
 
 pub returns : goal.returns

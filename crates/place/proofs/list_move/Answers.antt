@@ -1,7 +1,6 @@
 -- `place::list_move` meets its contract: three stores, each within the list. Assumes nothing.
 use native.Mathlib.Numerals.{add-one, add-two}
 use native.Mathlib.Omega.{arith}
-use borrow.Author.Rules.{rules}
 use lib.ListN.{length-set}
 use Rattle.place.specs.MoveList.{set_move}
 use Rattle.place.proofs.list_move.Goals as goal

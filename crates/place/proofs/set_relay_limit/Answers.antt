@@ -1,6 +1,5 @@
 -- `place::set_relay_limit` meets its contract: the second number of a place is no place's first, and no other place's second. Assumes nothing.
 use native.Mathlib.Omega.{arith}
-use borrow.Author.Rules.{rules}
 use Rattle.tables.specs.Table.{relay_places, relay_number, relay_limit}
 use Rattle.place.proofs.Sets.{beside_set}
 use Rattle.place.proofs.set_relay_limit.Goals as goal

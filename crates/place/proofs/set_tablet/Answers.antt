@@ -1,6 +1,5 @@
 -- `place::set_tablet` meets its contract: a place that the table has is within its length, and its two numbers are no other place's. Assumes nothing.
 use native.Mathlib.Omega.{arith}
-use borrow.Author.Rules.{rules}
 use lib.ListN.{length-set}
 use Rattle.tables.specs.Table.{tablet_places, tablet_number, tablet_relay}
 use Rattle.place.proofs.Sets.{place_set}

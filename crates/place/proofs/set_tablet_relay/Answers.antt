@@ -1,6 +1,5 @@
 -- `place::set_tablet_relay` meets its contract: the second number of a place is no place's first, and no other place's second. Assumes nothing.
 use native.Mathlib.Omega.{arith}
-use borrow.Author.Rules.{rules}
 use Rattle.tables.specs.Table.{tablet_places, tablet_number, tablet_relay}
 use Rattle.place.proofs.Sets.{beside_set}
 use Rattle.place.proofs.set_tablet_relay.Goals as goal

@@ -1,6 +1,5 @@
 -- `placing::relay_limits` meets its contract. The invariant: the limits of the first i relays are loaded. Assumes nothing.
-use mathlib.Core.Path.{◌≡◌, refl}
-use Prim.Native.Nat.{◌-◌, ◌≤◌}
+use mathlib.Core.Path.{refl}
 use Rattle.tables.specs.Table.{relay_limit}
 use Rattle.tables.specs.Placement.{array, relay_limits}
 use Rattle.tables.proofs.Loops.{at_end, array_more}

@@ -1,10 +1,7 @@
 -- `placing::relay_limits` meets its contract. The invariant: the limits of the first i relays are loaded. Assumes nothing.
-use mathlib.Core.Path.{◌≡◌, refl}
+use mathlib.Core.Path.{◌≡◌}
 use Prim.Native.Nat.{◌-◌, ◌≤◌}
-use Rattle.tables.specs.Table.{relay_limit}
-use Rattle.tables.specs.Placement.{array, relay_limits}
-use Rattle.tables.proofs.Loops.{at_end, array_more}
-use native.Mathlib.Omega.{arith}
+use Rattle.tables.specs.Placement.{relay_limits}
 use Rattle.placing.proofs.relay_limits.Given as goal
 
 abbrev pub invariant-loop-i : goal.invariant-loop-i

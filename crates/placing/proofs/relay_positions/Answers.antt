@@ -1,6 +1,5 @@
 -- `placing::relay_positions` meets its contract. The invariant: the positions of the first i relays are loaded. Assumes nothing.
-use mathlib.Core.Path.{◌≡◌, refl, ap, ◌∙◌}
-use Prim.Native.Nat.{◌-◌, ◌≤◌}
+use mathlib.Core.Path.{refl, ap, ◌∙◌}
 use Rattle.ring.specs.Scheme.{positions}
 use Rattle.tables.specs.Table.{relay_number}
 use Rattle.tables.specs.Placement.{array, relay_positions}

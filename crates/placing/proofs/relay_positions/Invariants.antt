@@ -1,11 +1,8 @@
 -- `placing::relay_positions` meets its contract. The invariant: the positions of the first i relays are loaded. Assumes nothing.
-use mathlib.Core.Path.{◌≡◌, refl, ap, ◌∙◌}
+use mathlib.Core.Path.{◌≡◌}
 use Prim.Native.Nat.{◌-◌, ◌≤◌}
 use Rattle.ring.specs.Scheme.{positions}
-use Rattle.tables.specs.Table.{relay_number}
-use Rattle.tables.specs.Placement.{array, relay_positions}
-use Rattle.tables.proofs.Loops.{at_end, array_more}
-use native.Mathlib.Omega.{arith}
+use Rattle.tables.specs.Placement.{relay_positions}
 use Rattle.placing.proofs.relay_positions.Given as goal
 
 abbrev pub invariant-loop-i : goal.invariant-loop-i

@@ -1,8 +1,7 @@
 -- `plan::carry_out` meets its contract. The invariant: the first j tablets have their new relays, the c of them that moved are listed, and the
 -- others are as they were. The measure is how many are left. Assumes nothing.
-use Prim.Native.Nat.{◌-◌, ◌≤◌}
 use native.Mathlib.Omega.{arith}
-use Rattle.plan.proofs.Carried.{Carrying, carrying_none, carrying_moves, carrying_more, carrying_end, carrying_list}
+use Rattle.plan.proofs.Carried.{carrying_none, carrying_moves, carrying_more, carrying_end, carrying_list}
 use Rattle.plan.proofs.carry_out.Goals as goal
 
 pub loop-j-init : goal.loop-j-init
@@ -26,13 +25,12 @@ loop-j-smaller c =
     omega (arith, c.loop-j-test.true)
 
 pub loop-j-preserved : goal.loop-j-preserved
-loop-j-preserved c =
-    (
-      omega (arith, c.loop-j-test.true),
-      carrying_more c.requires
-          c.loop-j-test.true c.loop-j.invariant.1
-          c.from_u8-i.ensures.0 c.move_one-c.ensures,
-    )
+loop-j-preserved c = (
+  omega (arith, c.loop-j-test.true),
+  carrying_more c.requires
+      c.loop-j-test.true c.loop-j.invariant.1
+      c.from_u8-i.ensures.0 c.move_one-c.ensures,
+)
 
 pub shape_of-tablets : goal.shape_of-tablets
 shape_of-tablets c = c.loop-j.invariant.1.size

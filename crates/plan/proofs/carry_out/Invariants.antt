@@ -1,8 +1,7 @@
 -- `plan::carry_out` meets its contract. The invariant: the first j tablets have their new relays, the c of them that moved are listed, and the
 -- others are as they were. The measure is how many are left. Assumes nothing.
 use Prim.Native.Nat.{◌-◌, ◌≤◌}
-use native.Mathlib.Omega.{arith}
-use Rattle.plan.proofs.Carried.{Carrying, carrying_none, carrying_moves, carrying_more, carrying_end, carrying_list}
+use Rattle.plan.proofs.Carried.{Carrying}
 use Rattle.plan.proofs.carry_out.Given as goal
 
 abbrev pub invariant-loop-j : goal.invariant-loop-j

@@ -1,6 +1,5 @@
 -- `plan::count_moves` meets its contract. The invariant: c of the first j tablets move. The measure is how many are left. Assumes nothing.
-use mathlib.Core.Path.{◌≡◌, refl}
-use Prim.Native.Nat.{◌-◌, ◌≤◌}
+use mathlib.Core.Path.{refl}
 use native.Mathlib.Omega.{arith}
 use lib.ListN.{length}
 use Rattle.tables.proofs.Loops.{at_end}

@@ -1,11 +1,8 @@
 -- `plan::count_moves` meets its contract. The invariant: c of the first j tablets move. The measure is how many are left. Assumes nothing.
-use mathlib.Core.Path.{◌≡◌, refl}
+use mathlib.Core.Path.{◌≡◌}
 use Prim.Native.Nat.{◌-◌, ◌≤◌}
-use native.Mathlib.Omega.{arith}
 use lib.ListN.{length}
-use Rattle.tables.proofs.Loops.{at_end}
-use Rattle.plan.specs.Changes.{changes, changes_to}
-use Rattle.plan.proofs.Changes.{count_more}
+use Rattle.plan.specs.Changes.{changes_to}
 use Rattle.plan.proofs.count_moves.Given as goal
 
 abbrev pub invariant-loop-j : goal.invariant-loop-j

@@ -1,9 +1,7 @@
 -- `plan::limit_sum` meets its contract. The invariant: `sum` is the limits of the first i relays, each at most the greatest limit. The measure is
 -- how many are left. Assumes nothing.
-use mathlib.Core.Path.{◌≡◌, refl}
-use Prim.Native.Nat.{◌*◌, ◌-◌, ◌≤◌}
+use mathlib.Core.Path.{refl}
 use native.Mathlib.Omega.{arith}
-use Rattle.ring.specs.Most.{most_limit}
 use Rattle.rule.specs.Entry.{total}
 use Rattle.tables.proofs.Loops.{at_end}
 use Rattle.tables.specs.Table.{relay_number, relay_limit}
@@ -36,25 +34,24 @@ pub loop-i-smaller : goal.loop-i-smaller
 loop-i-smaller c = omega (arith, c.loop-i-test.true)
 
 pub loop-i-preserved : goal.loop-i-preserved
-loop-i-preserved c =
-    (
-      omega (arith, c.loop-i-test.true),
-      omega (
-        arith,
-        c.from_u32-sum.ensures.0,
-        c.relay_limit.ensures,
-        total_more
-            (relay_number c.args.relays.now) (relay_limit c.args.relays.now)
-            c.loop-i.i,
-      ),
-      omega (
-        arith,
-        c.from_u32-sum.ensures.0,
-        c.relay_limit.ensures,
-        c.requires.limits _
-            c.loop-i-test.true,
-      ),
-    )
+loop-i-preserved c = (
+  omega (arith, c.loop-i-test.true),
+  omega (
+    arith,
+    c.from_u32-sum.ensures.0,
+    c.relay_limit.ensures,
+    total_more
+        (relay_number c.args.relays.now) (relay_limit c.args.relays.now)
+        c.loop-i.i,
+  ),
+  omega (
+    arith,
+    c.from_u32-sum.ensures.0,
+    c.relay_limit.ensures,
+    c.requires.limits _
+        c.loop-i-test.true,
+  ),
+)
 
 pub returns : goal.returns
 returns c =

@@ -1,14 +1,10 @@
 -- `plan::limit_sum` meets its contract. The invariant: `sum` is the limits of the first i relays, each at most the greatest limit. The measure is
 -- how many are left. Assumes nothing.
-use mathlib.Core.Path.{◌≡◌, refl}
+use mathlib.Core.Path.{◌≡◌}
 use Prim.Native.Nat.{◌*◌, ◌-◌, ◌≤◌}
-use native.Mathlib.Omega.{arith}
 use Rattle.ring.specs.Most.{most_limit}
 use Rattle.rule.specs.Entry.{total}
-use Rattle.tables.proofs.Loops.{at_end}
-use Rattle.tables.specs.Table.{relay_number, relay_limit}
-use Rattle.meaning.specs.Meaning.{places, relays_in}
-use Rattle.meaning.proofs.More.{total_more}
+use Rattle.meaning.specs.Meaning.{relays_in}
 use Rattle.plan.proofs.limit_sum.Given as goal
 
 abbrev pub invariant-loop-i : goal.invariant-loop-i

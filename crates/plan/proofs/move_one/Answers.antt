@@ -1,7 +1,6 @@
 -- `plan::move_one` meets its contract: the test compares the two relays, and where they differ the move is listed and made. Assumes nothing.
 use native.Mathlib.Omega.{arith}
 use Rattle.plan.proofs.Carried.{move_room, moved_none, moved_made}
-use borrow.Author.Rules.{rules}
 use Rattle.plan.proofs.move_one.Goals as goal
 
 pub tablet_relay-old-requires : goal.tablet_relay-old-requires

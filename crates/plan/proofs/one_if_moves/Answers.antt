@@ -4,7 +4,6 @@ use native.Mathlib.Omega.{arith}
 use Rattle.tables.specs.Table.{relay_number}
 use Rattle.plan.specs.Changes.{new_relay}
 use Rattle.plan.proofs.Changes.{picks_same, picks_other}
-use borrow.Author.Rules.{rules}
 use Rattle.plan.proofs.one_if_moves.Goals as goal
 
 pub relay_number-new-requires : goal.relay_number-new-requires

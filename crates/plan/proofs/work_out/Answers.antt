@@ -2,7 +2,6 @@
 use mathlib.Core.Path.{refl}
 use native.Mathlib.Omega.{arith}
 use Rattle.plan.proofs.Plans.{limits_planned, list_planned, planned}
-use borrow.Author.Rules.{rules}
 use Rattle.plan.proofs.work_out.Goals as goal
 
 pub limit_sum-requires : goal.limit_sum-requires

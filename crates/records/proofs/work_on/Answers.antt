@@ -1,6 +1,5 @@
 -- `records::work_on` meets its contract: the call's promise for the part of the numbers that it is lent, by `works`. Assumes nothing.
 use mathlib.Core.Path.{refl}
-use borrow.Author.Rules.{rules}
 use Rattle.calls.proofs.Kept.{kept_answers}
 use Rattle.records.proofs.Works.{scratch_length, works}
 use Rattle.records.proofs.work_on.Goals as goal

@@ -2,11 +2,11 @@
 -- tablets are left. Assumes nothing.
 use mathlib.Core.List.{List}
 use mathlib.Core.Path.{refl}
-use Prim.Native.Nat.{ℕ, ◌-◌, ◌≤◌}
+use Prim.Native.Nat.{ℕ}
 use native.Mathlib.Omega.{arith}
 use Rattle.ring.specs.Scheme.{Positions}
 use Rattle.ring_edit.specs.Homes.{Homes}
-use Rattle.refill.proofs.Refills.{Fills, filling_none, filling_more, filling_end, Turn, turn_takes, turn_below}
+use Rattle.refill.proofs.Refills.{filling_none, filling_more, filling_end, Turn, turn_takes, turn_below}
 use Rattle.refill.proofs.refill.Goals as goal
 use Rattle.refill.proofs.refill.Goals.{After-led_to-k}
 

@@ -1,5 +1,4 @@
 -- `relay_calls::add` meets its contract: the relay is put in in numbers of the call's own, and `finish` does the rest. Assumes nothing.
-use borrow.Author.Rules.{rules}
 use Rattle.relay_calls.proofs.add.Goals as goal
 
 pub returns : goal.returns

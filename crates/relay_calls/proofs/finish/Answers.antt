@@ -5,7 +5,6 @@ use mathlib.Core.Path.{refl}
 use native.Mathlib.Omega.{arith}
 use Rattle.relay_calls.proofs.Outcomes.{edit_refused, edit_passed, edit_plans, edit_short, plan_refused}
 use Rattle.relay_calls.proofs.Outcomes.{plan_carries, plan_count, plan_answers}
-use borrow.Author.Rules.{rules}
 use Rattle.relay_calls.proofs.finish.Goals as goal
 
 pub returns-then-not-done : goal.returns-then-not-done

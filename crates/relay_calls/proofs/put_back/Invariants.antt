@@ -1,8 +1,7 @@
 -- `relay_calls::put_back` meets its contract. The invariant: the first i numbers are replaced. The measure is how many are left. Assumes nothing.
 use Prim.Native.Nat.{◌-◌}
-use native.Mathlib.Omega.{arith}
-use lib.ListN.{length, get_or, length-set}
-use Rattle.relay_calls.proofs.Replaced.{Replacing, replacing_none, replacing_more, replacing_end}
+use lib.ListN.{length}
+use Rattle.relay_calls.proofs.Replaced.{Replacing}
 use Rattle.relay_calls.proofs.put_back.Given as goal
 
 abbrev pub invariant-loop-i : goal.invariant-loop-i

@@ -1,5 +1,4 @@
 -- `relay_calls::remove` meets its contract: the relay is taken out in numbers of the call's own, and `finish` does the rest. Assumes nothing.
-use borrow.Author.Rules.{rules}
 use Rattle.relay_calls.proofs.remove.Goals as goal
 
 pub returns : goal.returns

@@ -1,5 +1,4 @@
 -- `relay_calls::set` meets its contract: the relay gets its limit in numbers of the call's own, and `finish` does the rest. Assumes nothing.
-use borrow.Author.Rules.{rules}
 use Rattle.relay_calls.proofs.set.Goals as goal
 
 pub returns : goal.returns

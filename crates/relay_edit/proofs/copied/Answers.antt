@@ -1,9 +1,7 @@
 -- `relay_edit::copied` meets its contract. The invariant: the first i numbers are copied, and zeros stand behind them. The measure is how many
 -- are left. Assumes nothing.
-use Prim.Native.Nat.{◌-◌, ◌≤◌}
 use native.Mathlib.Omega.{arith}
-use lib.ListN.{length}
-use Rattle.relay_edit.proofs.Copies.{Copying, copying_none, copying_more, copying_end}
+use Rattle.relay_edit.proofs.Copies.{copying_none, copying_more, copying_end}
 use Rattle.relay_edit.proofs.copied.Goals as goal
 
 pub loop-i-init : goal.loop-i-init

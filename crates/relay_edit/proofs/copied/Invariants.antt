@@ -1,9 +1,8 @@
 -- `relay_edit::copied` meets its contract. The invariant: the first i numbers are copied, and zeros stand behind them. The measure is how many
 -- are left. Assumes nothing.
 use Prim.Native.Nat.{◌-◌, ◌≤◌}
-use native.Mathlib.Omega.{arith}
 use lib.ListN.{length}
-use Rattle.relay_edit.proofs.Copies.{Copying, copying_none, copying_more, copying_end}
+use Rattle.relay_edit.proofs.Copies.{Copying}
 use Rattle.relay_edit.proofs.copied.Given as goal
 
 abbrev pub invariant-loop-i : goal.invariant-loop-i

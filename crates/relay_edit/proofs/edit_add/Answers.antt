@@ -6,7 +6,6 @@ use native.Mathlib.Omega.{arith}
 use Rattle.relay_edit.specs.Found.{Stands}
 use Rattle.relay_edit.proofs.OwnTable.{stands_few, stands_short}
 use Rattle.relay_edit.proofs.Edits.{add_about, found_refused, found_stands, add_refused, add_fits, add_asks, add_passed}
-use borrow.Author.Rules.{rules}
 use Rattle.relay_edit.proofs.edit_add.Goals as goal
 use Rattle.relay_edit.proofs.edit_add.Goals.{Else-not-done}
 

@@ -7,7 +7,6 @@ use Rattle.relay_edit.specs.Found.{Stands}
 use Rattle.relay_edit.proofs.OwnTable.{stands_short}
 use Rattle.relay_edit.proofs.Homes.{take_asks}
 use Rattle.relay_edit.proofs.Edits.{remove_about, found_refused, found_stands, remove_refused, remove_fits, remove_passed}
-use borrow.Author.Rules.{rules}
 use Rattle.relay_edit.proofs.edit_remove.Goals as goal
 use Rattle.relay_edit.proofs.edit_remove.Goals.{Else-not-done}
 

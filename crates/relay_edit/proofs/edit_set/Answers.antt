@@ -5,7 +5,6 @@ use mathlib.Core.Path.{refl}
 use Rattle.relay_edit.specs.Found.{Stands}
 use Rattle.relay_edit.proofs.OwnTable.{stands_short}
 use Rattle.relay_edit.proofs.Edits.{set_about, found_refused, found_stands, set_refused, set_fits, set_passed}
-use borrow.Author.Rules.{rules}
 use Rattle.relay_edit.proofs.edit_set.Goals as goal
 use Rattle.relay_edit.proofs.edit_set.Goals.{Else-not-done}
 

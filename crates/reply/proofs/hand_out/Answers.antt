@@ -1,6 +1,5 @@
 -- `reply::hand_out` meets its contract. Assumes nothing.
 use mathlib.Core.Path.{refl}
-use borrow.Author.Rules.{rules}
 use Rattle.reply.specs.Numbers.{reply_numbers}
 use Rattle.reply.proofs.hand_out.Goals as goal
 

@@ -1,7 +1,7 @@
 -- `ring::hash` meets its contract. The invariant: mixing what is left of the bytes into the hash so far gives the hash of all.
 -- Assumes nothing.
-use Rattle.std.proofs.Common.{◌≡◌, ℕ, ◌+◌, ◌-◌, ◌<◌, ◌≤◌, List, length, get_or, drop, sym, refl, ap, ◌∙◌, add-one, drop_of_length-le, drop-cons, rules}
-use Rattle.ring.specs.Fnv.{fnv, mixed, mixed_all}
+use Rattle.std.proofs.Common.{◌≡◌, ◌-◌, ◌≤◌, length, drop}
+use Rattle.ring.specs.Fnv.{fnv, mixed_all}
 use Rattle.ring.proofs.hash.Given as goal
 
 abbrev pub invariant-loop-i : goal.invariant-loop-i

@@ -1,7 +1,6 @@
 -- `ring::hash_number` meets its contract: five bytes, each by the contract of `mix`.
 -- Assumes nothing.
 use Rattle.ring.specs.Fnv.{fnv, mixed_all, four_bytes}
-use Rattle.std.proofs.Common.{rules}
 use Rattle.ring.proofs.hash_number.Goals as goal
 
 pub returns : goal.returns

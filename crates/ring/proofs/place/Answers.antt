@@ -1,6 +1,6 @@
 -- `ring::place` meets its contract, scheme by scheme.
 -- Assumes nothing.
-use Rattle.std.proofs.Common.{rules, eq-eqb, ne_eqb}
+use Rattle.std.proofs.Common.{eq-eqb, ne_eqb}
 use Rattle.ring.specs.Scheme.{position}
 use Rattle.ring.proofs.place.Goals as goal
 

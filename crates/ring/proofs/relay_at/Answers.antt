@@ -1,7 +1,6 @@
 -- `ring::relay_at` meets its contract: the relays' tag is handed to `place`.
 -- Assumes nothing.
 use Rattle.ring.specs.Scheme.{positions}
-use Rattle.std.proofs.Common.{rules}
 use Rattle.ring.proofs.relay_at.Goals as goal
 
 pub returns : goal.returns

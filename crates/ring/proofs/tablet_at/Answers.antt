@@ -1,7 +1,6 @@
 -- `ring::tablet_at` meets its contract: the tablets' tag is handed to `place`.
 -- Assumes nothing.
 use Rattle.ring.specs.Scheme.{positions}
-use Rattle.std.proofs.Common.{rules}
 use Rattle.ring.proofs.tablet_at.Goals as goal
 
 pub returns : goal.returns

@@ -1,5 +1,4 @@
 -- `ring_edit::comes_first` meets its contract: the two slots are asked from the tablet's position. Assumes nothing.
-use borrow.Author.Rules.{rules}
 use Rattle.ring_edit.proofs.comes_first.Goals as goal
 
 pub returns : goal.returns

@@ -2,7 +2,6 @@
 use mathlib.Core.Path.{refl}
 use borrow.Author.Tests.{lt-ltb, le-ltb}
 use Rattle.ring_edit.specs.Homes.{home_less}
-use borrow.Author.Rules.{rules}
 use Rattle.ring_edit.proofs.home_less.Goals as goal
 
 pub returns-then-s-h : goal.returns-then-s-h

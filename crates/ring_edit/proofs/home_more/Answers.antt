@@ -2,7 +2,6 @@
 use mathlib.Core.Path.{sym, ◌∙◌}
 use native.Mathlib.Omega.{arith}
 use Rattle.ring_edit.proofs.Ahead.{more_before, more_behind, more_here}
-use borrow.Author.Rules.{rules}
 use Rattle.ring_edit.proofs.home_more.Goals as goal
 
 pub returns-then-past : goal.returns-then-past

@@ -1,7 +1,5 @@
 -- `ring_edit::homes_less` meets its contract. The invariant: the first j homes have moved. The measure is how many are left. Assumes nothing.
-use Prim.Native.Nat.{◌-◌, ◌≤◌}
 use native.Mathlib.Omega.{arith}
-use Rattle.ring_edit.specs.Homes.{HomesMoved, less_at}
 use Rattle.ring_edit.proofs.Shifts.{moved_none, moved_more, moved_end}
 use Rattle.ring_edit.proofs.homes_less.Goals as goal
 

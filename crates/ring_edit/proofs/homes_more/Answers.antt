@@ -1,8 +1,5 @@
 -- `ring_edit::homes_more` meets its contract. The invariant: the first j homes have moved. The measure is how many are left. Assumes nothing.
-use Prim.Native.Nat.{◌-◌, ◌≤◌}
 use native.Mathlib.Omega.{arith}
-use Rattle.ring.specs.Scheme.{positions}
-use Rattle.ring_edit.specs.Homes.{HomesMoved, more_at}
 use Rattle.ring_edit.proofs.Shifts.{moved_none, moved_more, moved_end}
 use Rattle.ring_edit.proofs.homes_more.Goals as goal
 
@@ -24,12 +21,11 @@ overflow_add-j c =
     omega (arith, c.requires.0.few)
 
 pub loop-j-preserved : goal.loop-j-preserved
-loop-j-preserved c =
-    (
-      omega arith,
-      moved_more _ c.loop-j.invariant.1
-          (omega (arith, c.requires.0.few)) c.home_more.ensures,
-    )
+loop-j-preserved c = (
+  omega arith,
+  moved_more _ c.loop-j.invariant.1
+      (omega (arith, c.requires.0.few)) c.home_more.ensures,
+)
 
 pub returns : goal.returns
 returns c = moved_end _ c.loop-j-test.false c.loop-j.invariant.0 c.loop-j.invariant.1

@@ -1,9 +1,7 @@
 -- `ring_edit::homes_more` meets its contract. The invariant: the first j homes have moved. The measure is how many are left. Assumes nothing.
 use Prim.Native.Nat.{◌-◌, ◌≤◌}
-use native.Mathlib.Omega.{arith}
 use Rattle.ring.specs.Scheme.{positions}
 use Rattle.ring_edit.specs.Homes.{HomesMoved, more_at}
-use Rattle.ring_edit.proofs.Shifts.{moved_none, moved_more, moved_end}
 use Rattle.ring_edit.proofs.homes_more.Given as goal
 
 abbrev pub invariant-loop-j : goal.invariant-loop-j

@@ -1,9 +1,9 @@
 -- `ring_edit::keys_less` meets its contract. The invariant: the first k keys are lowered. The measure is how many are left. Assumes nothing.
 use mathlib.Core.Path.{refl, ap, ◌∙◌}
-use Prim.Native.Nat.{◌+◌, ◌-◌, ◌<◌}
+use Prim.Native.Nat.{◌+◌, ◌<◌}
 use native.Mathlib.Omega.{arith}
 use lib.ListN.{get_or}
-use Rattle.ring_edit.specs.Shift.{skip, lowered, KeysLess}
+use Rattle.ring_edit.specs.Shift.{skip, lowered}
 use Rattle.ring_edit.proofs.Skips.{skip_below}
 use Rattle.ring_edit.proofs.Shifts.{keys_less_none, keys_less_more, keys_less_end}
 use Rattle.ring_edit.proofs.keys_less.Goals as goal

@@ -1,11 +1,6 @@
 -- `ring_edit::keys_less` meets its contract. The invariant: the first k keys are lowered. The measure is how many are left. Assumes nothing.
-use mathlib.Core.Path.{refl, ap, ◌∙◌}
-use Prim.Native.Nat.{◌+◌, ◌-◌, ◌<◌}
-use native.Mathlib.Omega.{arith}
-use lib.ListN.{get_or}
-use Rattle.ring_edit.specs.Shift.{skip, lowered, KeysLess}
-use Rattle.ring_edit.proofs.Skips.{skip_below}
-use Rattle.ring_edit.proofs.Shifts.{keys_less_none, keys_less_more, keys_less_end}
+use Prim.Native.Nat.{◌-◌}
+use Rattle.ring_edit.specs.Shift.{KeysLess}
 use Rattle.ring_edit.proofs.keys_less.Given as goal
 
 abbrev pub invariant-loop-k : goal.invariant-loop-k

@@ -1,10 +1,6 @@
 -- `ring_edit::keys_more` meets its contract. The invariant: the first k keys are raised. The measure is how many are left. Assumes nothing.
-use mathlib.Core.Path.{refl}
-use Prim.Native.Nat.{◌+◌, ◌-◌, ◌<◌}
-use native.Mathlib.Omega.{arith}
-use Rattle.ring_edit.specs.Shift.{skip}
-use Rattle.ring_edit.proofs.Skips.{skip_below}
-use Rattle.ring_edit.proofs.Shifts.{Raising, raising_none, raising_more, raising_end}
+use Prim.Native.Nat.{◌-◌}
+use Rattle.ring_edit.proofs.Shifts.{Raising}
 use Rattle.ring_edit.proofs.keys_more.Given as goal
 
 abbrev pub invariant-loop-k : goal.invariant-loop-k

@@ -2,7 +2,6 @@
 use mathlib.Core.Path.{refl}
 use borrow.Author.Tests.{lt-ltb, le-ltb}
 use Rattle.ring_edit.specs.Shift.{lowered}
-use borrow.Author.Rules.{rules}
 use Rattle.ring_edit.proofs.lowered.Goals as goal
 
 pub returns-then-at-i : goal.returns-then-at-i

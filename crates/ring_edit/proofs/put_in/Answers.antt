@@ -1,6 +1,5 @@
 -- `ring_edit::put_in` meets its contract: the keys with the new one at its slot, and the homes moved by them. Assumes nothing.
 use Rattle.ring_edit.proofs.Shifts.{puts_in}
-use borrow.Author.Rules.{rules}
 use Rattle.ring_edit.proofs.put_in.Goals as goal
 
 pub returns : goal.returns

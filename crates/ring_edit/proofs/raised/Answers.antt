@@ -2,7 +2,6 @@
 use mathlib.Core.Path.{refl}
 use borrow.Author.Tests.{lt-ltb, le-ltb}
 use Rattle.ring_edit.specs.Shift.{raised}
-use borrow.Author.Rules.{rules}
 use Rattle.ring_edit.proofs.raised.Goals as goal
 
 pub returns-then-i-at : goal.returns-then-i-at

@@ -2,7 +2,6 @@
 use mathlib.Core.Path.{refl}
 use borrow.Author.Tests.{lt-ltb, le-ltb}
 use Rattle.ring_edit.specs.Shift.{skip}
-use borrow.Author.Rules.{rules}
 use Rattle.ring_edit.proofs.skip.Goals as goal
 
 pub returns-then-k-s : goal.returns-then-k-s

@@ -2,7 +2,6 @@
 use mathlib.Core.Path.{sym}
 use native.Mathlib.Omega.{arith}
 use Rattle.ring_edit.proofs.Ahead.{after_on, after_round}
-use borrow.Author.Rules.{rules}
 use Rattle.ring_edit.proofs.slot_after.Goals as goal
 
 pub returns-then-s-n : goal.returns-then-s-n

@@ -1,7 +1,6 @@
 -- `ring_edit::slot_of` meets its contract. The invariant: the first k slots have another relay. The measure is how many are left. Assumes nothing.
-use Prim.Native.Nat.{◌-◌}
 use native.Mathlib.Omega.{arith}
-use Rattle.ring_edit.proofs.Shifts.{Unmet, unmet_none, unmet_more, unmet_end}
+use Rattle.ring_edit.proofs.Shifts.{unmet_none, unmet_more, unmet_end}
 use Rattle.ring_edit.proofs.slot_of.Goals as goal
 
 pub loop-k-init : goal.loop-k-init

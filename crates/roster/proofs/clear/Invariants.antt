@@ -1,11 +1,8 @@
 -- `roster::clear` meets its contract. The invariant: up to i the table is its old front and zeros. Assumes nothing.
 use mathlib.Core.List.{◌++◌}
-use mathlib.Core.Path.{◌≡◌, refl}
+use mathlib.Core.Path.{◌≡◌}
 use Prim.Native.Nat.{◌≤◌, ◌-◌}
-use native.Mathlib.Omega.{arith}
-use borrow.Author.Rules.{rules}
-use lib.ListN.{length, take, replicate, length-set}
-use Rattle.roster.proofs.Fronts.{zeros_none, zeros_more, zeros_all}
+use lib.ListN.{length, take, replicate}
 use Rattle.roster.proofs.clear.Given as goal
 
 abbrev pub invariant-loop-i : goal.invariant-loop-i

@@ -1,9 +1,8 @@
 -- `roster::copy` meets its contract. The invariant: the first i places of the table are the block's. Assumes nothing.
-use mathlib.Core.Path.{◌≡◌, refl}
-use Prim.Native.Nat.{◌*◌, ◌-◌, ◌≤◌}
+use mathlib.Core.Path.{refl}
 use native.Mathlib.Omega.{arith}
 use borrow.Author.Rules.{rules}
-use lib.ListN.{length, take, length-set}
+use lib.ListN.{length-set}
 use Rattle.roster.proofs.Fronts.{front_more, front_all}
 use Rattle.roster.proofs.copy.Goals as goal
 

@@ -1,10 +1,7 @@
 -- `roster::copy` meets its contract. The invariant: the first i places of the table are the block's. Assumes nothing.
-use mathlib.Core.Path.{◌≡◌, refl}
+use mathlib.Core.Path.{◌≡◌}
 use Prim.Native.Nat.{◌*◌, ◌-◌, ◌≤◌}
-use native.Mathlib.Omega.{arith}
-use borrow.Author.Rules.{rules}
-use lib.ListN.{length, take, length-set}
-use Rattle.roster.proofs.Fronts.{front_more, front_all}
+use lib.ListN.{length, take}
 use Rattle.roster.proofs.copy.Given as goal
 
 abbrev pub invariant-loop-i : goal.invariant-loop-i

@@ -1,7 +1,6 @@
 -- `roster::early_refusal` meets its contract: each way out is the first refusal that applies. Assumes nothing.
 use mathlib.Core.Path.{ap}
 use mathlib.Core.Bool.{not}
-use borrow.Author.Rules.{rules}
 use Rattle.roster.proofs.Bars.{shape_barred, scheme_barred, fit_barred, none_barred}
 use Rattle.roster.proofs.early_refusal.Goals as goal
 

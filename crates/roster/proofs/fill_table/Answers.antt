@@ -1,5 +1,4 @@
 -- `roster::fill_table` meets its contract: the block is copied, and what lies behind it cleared. Assumes nothing.
-use borrow.Author.Rules.{rules}
 use Rattle.roster.proofs.Fronts.{front_filled}
 use Rattle.roster.proofs.fill_table.Goals as goal
 

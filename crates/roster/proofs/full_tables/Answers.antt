@@ -2,8 +2,6 @@
 use mathlib.Core.Path.{ap}
 use mathlib.Core.Bool.{not}
 use mathlib.Core.Path.{sym, ◌∙◌}
-use borrow.Author.Rules.{rules}
-use borrow.Author.Tests.{not-true}
 use Rattle.call_start.proofs.Ways.{look_start}
 use Rattle.roster.proofs.Contents.{full_refused, full_relays, full_tablets}
 use Rattle.roster.proofs.full_tables.Goals as goal

@@ -3,7 +3,6 @@ use mathlib.Core.Path.{ap}
 use mathlib.Core.Bool.{not}
 use mathlib.Core.Path.{refl}
 use native.Mathlib.Omega.{arith}
-use borrow.Author.Rules.{rules}
 use Rattle.roster.proofs.Fronts.{scratch_size}
 use Rattle.roster.proofs.Outcomes.{open_done, open_refused, open_few, open_room, over_wrong, over_right}
 use Rattle.roster.proofs.read.Goals as goal

@@ -1,6 +1,5 @@
 -- `roster::refused` meets its contract. Assumes nothing.
 use mathlib.Core.Path.{ap}
-use borrow.Author.Rules.{rules}
 use Rattle.rule.specs.declared.Reply.{Reply}
 use Rattle.roster.proofs.refused.Goals as goal
 

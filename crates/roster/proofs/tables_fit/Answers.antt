@@ -1,7 +1,6 @@
 -- `roster::tables_fit` meets its contract: each way out is the first test that fails, and the last test is the answer. Assumes nothing.
 use mathlib.Core.Path.{ap}
 use mathlib.Core.Bool.{not}
-use borrow.Author.Rules.{rules}
 use Rattle.roster.proofs.Bars.{relays_unfit, tablets_unfit, relays_short, tablets_left}
 use Rattle.roster.proofs.tables_fit.Goals as goal
 

@@ -2,7 +2,6 @@
 -- Assumes nothing.
 use mathlib.Core.Path.{ap}
 use mathlib.Core.Bool.{not}
-use borrow.Author.Rules.{rules}
 use Rattle.roster.proofs.TakenOver.{taken_not, taken_all}
 use Rattle.roster.proofs.take_over.Goals as goal
 

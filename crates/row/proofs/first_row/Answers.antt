@@ -1,8 +1,7 @@
 -- `row::first_row` meets its contract. The invariant: from slot k on the row leads to the first slot with room, and so does `lead` from k.
 -- Assumes nothing.
-use Rattle.std.proofs.Common.{◌≤◌, replicate, refl, arith}
+use Rattle.std.proofs.Common.{replicate, refl, arith}
 use Rattle.ring.specs.Most.{most_relays}
-use Rattle.row.specs.Row.{Leads, Row}
 use Rattle.row.proofs.Leads.{leads_from, row_start, row_more, row_end}
 use Rattle.row.proofs.first_row.Goals as goal
 

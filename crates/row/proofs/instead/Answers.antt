@@ -1,5 +1,5 @@
 -- `row::instead` meets its contract, as x is k or not. Assumes nothing.
-use Rattle.std.proofs.Common.{arith, rules, eq-eqb, ne_eqb}
+use Rattle.std.proofs.Common.{arith, eq-eqb, ne_eqb}
 use Rattle.row.proofs.instead.Goals as goal
 
 pub returns-then-x-k : goal.returns-then-x-k

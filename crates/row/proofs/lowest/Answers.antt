@@ -1,6 +1,6 @@
 -- `row::lowest` meets its contract. The invariant: the first k slots have no room. Assumes nothing.
-use Rattle.std.proofs.Common.{◌-◌, arith}
-use Rattle.row.proofs.Leads.{Emptied, emptied_none, emptied_more, leads_none, leads_lowest}
+use Rattle.std.proofs.Common.{arith}
+use Rattle.row.proofs.Leads.{emptied_none, emptied_more, leads_none, leads_lowest}
 use Rattle.row.proofs.lowest.Goals as goal
 
 pub loop-k-init : goal.loop-k-init

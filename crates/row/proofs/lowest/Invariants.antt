@@ -1,6 +1,6 @@
 -- `row::lowest` meets its contract. The invariant: the first k slots have no room. Assumes nothing.
-use Rattle.std.proofs.Common.{◌-◌, arith}
-use Rattle.row.proofs.Leads.{Emptied, emptied_none, emptied_more, leads_none, leads_lowest}
+use Rattle.std.proofs.Common.{◌-◌}
+use Rattle.row.proofs.Leads.{Emptied}
 use Rattle.row.proofs.lowest.Given as goal
 
 abbrev pub invariant-loop-k : goal.invariant-loop-k

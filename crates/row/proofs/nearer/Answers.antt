@@ -1,5 +1,5 @@
 -- `row::nearer` meets its contract, as slot k has room or none. Assumes nothing.
-use Rattle.std.proofs.Common.{arith, rules}
+use Rattle.std.proofs.Common.{arith}
 use Rattle.row.proofs.Leads.{leads_here, leads_on}
 use Rattle.row.proofs.nearer.Goals as goal
 

@@ -1,7 +1,6 @@
 -- `row::redirect` meets its contract. The invariant: the first i slots are led on, the others as they were. Assumes nothing.
-use Rattle.std.proofs.Common.{◌≡◌, ℕ, ◌+◌, ◌-◌, ◌%◌, ◌≤◌, cond, eqb, get_or, ap, ◌∙◌, arith}
+use Rattle.std.proofs.Common.{◌≡◌, ℕ, ◌+◌, ◌%◌, cond, eqb, get_or, ap, ◌∙◌, arith}
 use Rattle.ring.specs.Most.{most_relays}
-use Rattle.row.specs.Row.{Redirected}
 use Rattle.row.proofs.Shut.{redirected_none, redirected_more, redirected_end}
 use Rattle.row.proofs.redirect.Goals as goal
 use Rattle.row.proofs.redirect.Goals.{After-wrapping_sub_u8-by}
@@ -23,8 +22,7 @@ bounds-next-i-in-loop-i c = omega (arith, c.loop-i.invariant.1.size)
 pub loop-i-preserved : goal.loop-i-preserved
 loop-i-preserved c =
     let l = c.loop-i in
-    let x = get_or l.next l.i 0 in
-    (
+    let x = get_or l.next l.i 0 in (
       omega arith,
       redirected_more _ l.invariant.1 (omega (arith, l.invariant.1.size))
           (c.instead.ensures ∙ ap (λ (t : ℕ). cond (eqb x c.args.k) t x) (round (goal.at.loop-i-preserved c).After-wrapping_sub_u8-by)),

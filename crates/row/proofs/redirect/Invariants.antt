@@ -1,8 +1,7 @@
 -- `row::redirect` meets its contract. The invariant: the first i slots are led on, the others as they were. Assumes nothing.
-use Rattle.std.proofs.Common.{◌≡◌, ℕ, ◌+◌, ◌-◌, ◌%◌, ◌≤◌, cond, eqb, get_or, ap, ◌∙◌, arith}
+use Rattle.std.proofs.Common.{◌-◌, ◌≤◌}
 use Rattle.ring.specs.Most.{most_relays}
 use Rattle.row.specs.Row.{Redirected}
-use Rattle.row.proofs.Shut.{redirected_none, redirected_more, redirected_end}
 use Rattle.row.proofs.redirect.Given as goal
 
 abbrev pub invariant-loop-i : goal.invariant-loop-i

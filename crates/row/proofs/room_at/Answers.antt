@@ -1,5 +1,5 @@
 -- `row::room_at` meets its contract: the room of the relay at slot k. Assumes nothing.
-use Rattle.std.proofs.Common.{ℕ, get_or, ap, rules}
+use Rattle.std.proofs.Common.{ℕ, get_or, ap}
 use Rattle.row.specs.Row.{slot_room}
 use Rattle.row.proofs.room_at.Goals as goal
 

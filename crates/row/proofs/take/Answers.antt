@@ -1,7 +1,7 @@
 -- `row::take` meets its contract: one place less at slot k's relay, and the row stays, or leads on past k where the relay is full.
 -- Assumes nothing.
 use Rattle.order.specs.Keys.{slot_relay}
-use Rattle.std.proofs.Common.{◌≡◌, ℕ, ◌-◌, get_or, set, ap, arith, rules}
+use Rattle.std.proofs.Common.{◌≡◌, ℕ, ◌-◌, get_or, set, ap, arith}
 use Rattle.tables.specs.Placement.{room_less}
 use Rattle.row.specs.Row.{slot_room}
 use Rattle.row.proofs.Shut.{row_keeps, row_shut}
@@ -29,13 +29,12 @@ redirect-requires c =
     c.requires.row.size
 
 pub returns-then-left-eq0 : goal.returns-then-left-eq0
-returns-then-left-eq0 c =
-    (
-      less (goal.at.returns-then-left-eq0 c).After-slot_relay-i,
-      row_shut c.requires (less (goal.at.returns-then-left-eq0 c).After-slot_relay-i)
-          (omega (arith, had (goal.at.returns-then-left-eq0 c).After-slot_relay-i, c.if-left-eq0.true, c.requires.opens))
-          c.led_to-to.ensures.0 c.redirect.ensures,
-    )
+returns-then-left-eq0 c = (
+  less (goal.at.returns-then-left-eq0 c).After-slot_relay-i,
+  row_shut c.requires (less (goal.at.returns-then-left-eq0 c).After-slot_relay-i)
+      (omega (arith, had (goal.at.returns-then-left-eq0 c).After-slot_relay-i, c.if-left-eq0.true, c.requires.opens))
+      c.led_to-to.ensures.0 c.redirect.ensures,
+)
 
 pub returns-else-left-eq0 : goal.returns-else-left-eq0
 returns-else-left-eq0 c =

@@ -1,6 +1,5 @@
 -- `rule::done` meets its contract: the refusal's number is compared with 0.
 -- Assumes nothing.
-use borrow.Author.Rules.{rules}
 use Rattle.rule.specs.Refusals.{is_done}
 use Rattle.rule.proofs.done.Goals as goal
 

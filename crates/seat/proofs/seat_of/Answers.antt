@@ -1,12 +1,10 @@
 -- `seat::seat_of` meets its contract: a tablet that is not refused for its number stands at the place that a search found. Assumes nothing.
 use mathlib.Core.Path.{sym, ap, ◌∙◌}
 use native.Mathlib.Omega.{arith}
-use borrow.Author.Tests.{not-true, not-false}
 use Rattle.ring.proofs.Tests.{true_false}
 use Rattle.slots.proofs.Steps.{steps_inside}
 use Rattle.lookup.specs.Spot.{missing}
 use Rattle.lookup.proofs.There.{spot_is}
-use borrow.Author.Rules.{rules}
 use Rattle.seat.proofs.seat_of.Goals as goal
 
 pub tablet_spot-at-requires : goal.tablet_spot-at-requires

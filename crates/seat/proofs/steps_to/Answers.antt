@@ -4,7 +4,6 @@ use mathlib.Core.Path.{sym}
 use native.Mathlib.Omega.{arith}
 use borrow.Author.Tests.{le-leb, lt-leb}
 use Rattle.slots.specs.Slots.{steps_to}
-use borrow.Author.Rules.{rules}
 use Rattle.seat.proofs.steps_to.Goals as goal
 
 pub returns-then-from-to : goal.returns-then-from-to

@@ -2,7 +2,6 @@
 use mathlib.Core.Path.{sym}
 use Rattle.stage.specs.Stage.{first}
 use Rattle.stage.proofs.Says.{says_text}
-use borrow.Author.Rules.{rules}
 use Rattle.stage.proofs.first_line.Goals as goal
 
 pub returns-in-Scheme : goal.returns-in-Scheme

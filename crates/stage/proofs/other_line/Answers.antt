@@ -1,7 +1,6 @@
 -- `stage::other_line` meets its contract: `?` is echoed. Assumes nothing.
 use Rattle.stage.specs.Stage.{other}
 use Rattle.stage.proofs.Says.{says_text}
-use borrow.Author.Rules.{rules}
 use Rattle.stage.proofs.other_line.Goals as goal
 
 pub returns : goal.returns

@@ -15,6 +15,7 @@ unfolding handed
 loop-i-init c = (omega arith, refl)
 
 pub loop-i-preserved : goal.loop-i-preserved
-loop-i-preserved c =
-    (omega (arith, c.loop-i-test.true),
-      one_more c.args.list.now c.loop-i.list c.args.numbers.now c.loop-i.i c.move_at.result c.loop-i.invariant.1 c.move_at.ensures)
+loop-i-preserved c = (
+  omega (arith, c.loop-i-test.true),
+  one_more c.args.list.now c.loop-i.list c.args.numbers.now c.loop-i.i c.move_at.result c.loop-i.invariant.1 c.move_at.ensures,
+)

@@ -2,7 +2,6 @@
 -- not there, the first numbers are others, or none of these. Assumes nothing.
 use mathlib.Core.Path.{ap}
 use mathlib.Core.Bool.{not}
-use borrow.Author.Rules.{rules}
 use Rattle.call_start.proofs.Ways.{look_start}
 use Rattle.call_start.proofs.Refusals.{start_rises}
 use Rattle.loads.proofs.Housed.{start_housed}

@@ -1,12 +1,12 @@
 -- `stretch::lists` meets its contract. The invariant: the first j tablets stand at their indices, and `next` has the next index of each relay.
 -- Assumes nothing.
 use mathlib.Core.Path.{refl}
-use Prim.Native.Nat.{◌-◌, ◌≤◌, ◌<◌}
+use Prim.Native.Nat.{◌<◌}
 use native.Mathlib.Omega.{arith}
 use lib.ListN.{get_or}
 use Rattle.loads.proofs.StartsOfStretches.{housed_roomed}
 use Rattle.sheet.proofs.NextIndices.{points_place, points_inside}
-use Rattle.stretch.proofs.Compared.{Lists, lists_short, lists_start, lists_more, lists_not, lists_end}
+use Rattle.stretch.proofs.Compared.{lists_short, lists_start, lists_more, lists_not, lists_end}
 use Rattle.stretch.proofs.lists.Goals as goal
 use Rattle.stretch.proofs.lists.Goals.{After-place_of-i}
 
@@ -37,12 +37,11 @@ loop-j-init c =
     (omega arith, lists_start c.requires _ c.starts-next.ensures)
 
 pub place_of-i-requires : goal.place_of-i-requires
-place_of-i-requires c =
-    (
-      omega (arith, c.requires.tablets_fit.few),
-      omega
-          (arith, c.requires.slots _ c.loop-j-test.true, c.requires.relays_fit.few),
-    )
+place_of-i-requires c = (
+  omega (arith, c.requires.tablets_fit.few),
+  omega
+      (arith, c.requires.slots _ c.loop-j-test.true, c.requires.relays_fit.few),
+)
 
 pub offset_bounds-next-i : goal.offset_bounds-next-i
 offset_bounds-next-i c = omega (arith, place (goal.at.offset_bounds-next-i c).After-place_of-i)
@@ -77,13 +76,12 @@ pub bounds-next-i-in-loop-j : goal.bounds-next-i-in-loop-j
 bounds-next-i-in-loop-j c = place (goal.at.bounds-next-i-in-loop-j c).After-place_of-i
 
 pub loop-j-preserved : goal.loop-j-preserved
-loop-j-preserved c =
-    (
-      omega arith,
-      lists_more c.requires _ _ c.loop-j-test.true c.loop-j.invariant.1
-          c.place_of-i.ensures refl c.tablet_number.ensures
-          c.if-sheet-at.false,
-    )
+loop-j-preserved c = (
+  omega arith,
+  lists_more c.requires _ _ c.loop-j-test.true c.loop-j.invariant.1
+      c.place_of-i.ensures refl c.tablet_number.ensures
+      c.if-sheet-at.false,
+)
 
 pub returns : goal.returns
 returns c =

@@ -1,12 +1,7 @@
 -- `stretch::lists` meets its contract. The invariant: the first j tablets stand at their indices, and `next` has the next index of each relay.
 -- Assumes nothing.
-use mathlib.Core.Path.{refl}
-use Prim.Native.Nat.{◌-◌, ◌≤◌, ◌<◌}
-use native.Mathlib.Omega.{arith}
-use lib.ListN.{get_or}
-use Rattle.loads.proofs.StartsOfStretches.{housed_roomed}
-use Rattle.sheet.proofs.NextIndices.{points_place, points_inside}
-use Rattle.stretch.proofs.Compared.{Lists, lists_short, lists_start, lists_more, lists_not, lists_end}
+use Prim.Native.Nat.{◌-◌, ◌≤◌}
+use Rattle.stretch.proofs.Compared.{Lists}
 use Rattle.stretch.proofs.lists.Given as goal
 
 abbrev pub invariant-loop-j : goal.invariant-loop-j

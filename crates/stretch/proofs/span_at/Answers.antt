@@ -1,6 +1,5 @@
 -- `stretch::span_at` meets its contract: from the relay's start to the next one's. Assumes nothing.
 use native.Mathlib.Omega.{arith}
-use borrow.Author.Rules.{rules}
 use Rattle.loads.proofs.StartsOfStretches.{start_more, roomed_fewer}
 use Rattle.stretch.proofs.span_at.Goals as goal
 

@@ -1,10 +1,10 @@
 -- `survey::look_over` meets its contract. The invariant: the first j tablets are placed by the rule and surveyed, and a walk to the last
 -- position, or past it, may begin at h. Assumes nothing.
-use mathlib.Core.Bool.{true, false, false≢true}
+use mathlib.Core.Bool.{false≢true}
 use mathlib.Core.Path.{◌≡◌, refl, sym, ap, ◌∙◌}
-use Prim.Native.Nat.{◌-◌, ◌≤◌, ◌<◌}
+use Prim.Native.Nat.{◌<◌}
 use native.Mathlib.Omega.{arith}
-use borrow.Author.Tests.{not-true, not-false, ltb-true}
+use borrow.Author.Tests.{ltb-true}
 use lib.Dec.{ltb}
 use lib.ListN.{get_or}
 use Rattle.ring.specs.Most.{most_tablets}
@@ -14,10 +14,7 @@ use Rattle.tables.specs.Table.{tablet_number}
 use Rattle.tables.specs.Shape.{all}
 use Rattle.tables.specs.Placement.{placed_at, placed}
 use Rattle.tables.proofs.Loops.{at_end, all_more, all_false}
-use Rattle.home.specs.Home.{key_at, Begins}
 use Rattle.home.proofs.Walk.{begins_none, home_at}
-use Rattle.survey.specs.declared.Survey.{Survey}
-use Rattle.survey.specs.Seats.{Surveyed}
 use Rattle.survey.proofs.Seats.{surveyed_none, surveyed_more, surveyed_end, Seat, seat_below, seat_takes, seat_right}
 use Rattle.survey.proofs.look_over.Goals as goal
 use Rattle.survey.proofs.look_over.Goals.{After-slot_relay-i, After-stands_beside-right, After-tablet_at-p, Else-not-right, In-loop-j}
@@ -42,7 +39,7 @@ seat : (c : After-slot_relay-i)
     c.home_of-h.result c.led_to-k.result c.slot_relay-i.result
 seat c =
     let e : c.tablet_at-p.result.0 ≡ (positions c.args.scheme).tablet_at (tablet_number c.args.tablets.now c.loop-j.j) =
-        c.tablet_at-p.ensures ∙ ap (positions _).tablet_at c.tablet_number.ensures in
+    c.tablet_at-p.ensures ∙ ap (positions _).tablet_at c.tablet_number.ensures in
     record {
       survey = c.loop-j.invariant.4;
       few = c.requires.0.few;
@@ -88,39 +85,36 @@ first_row-next-requires c =
 
 pub loop-j-init : goal.loop-j-init
 unfolding placed all
-loop-j-init c =
-    (
-      omega arith,
-      refl,
-      refl,
-      begins_none _ _ _,
-      surveyed_none
-          c.relay_positions-position.ensures c.ring_order-keys.ensures
-          c.relay_limits-room.ensures c.first_row-next.ensures refl refl,
-    )
+loop-j-init c = (
+  omega arith,
+  refl,
+  refl,
+  begins_none _ _ _,
+  surveyed_none
+      c.relay_positions-position.ensures c.ring_order-keys.ensures
+      c.relay_limits-room.ensures c.first_row-next.ensures refl refl,
+)
 
 pub tablet_number-requires : goal.tablet_number-requires
 tablet_number-requires c = omega (arith, c.loop-j-test.true, c.requires.1.there)
 
 pub home_of-h-requires : goal.home_of-h-requires
-home_of-h-requires c =
-    (
-      c.requires.0.few,
-      c.ring_order-keys.ensures.rises,
-      c.arc_starts-start.ensures,
-      c.loop-j.invariant.3,
-    )
+home_of-h-requires c = (
+  c.requires.0.few,
+  c.ring_order-keys.ensures.rises,
+  c.arc_starts-start.ensures,
+  c.loop-j.invariant.3,
+)
 
 pub slot_relay-i-requires : goal.slot_relay-i-requires
 slot_relay-i-requires c = c.led_to-k.ensures.1
 
 pub stands_beside-right-requires : goal.stands_beside-right-requires
-stands_beside-right-requires c =
-    (
-      c.slot_relay-i.ensures.1,
-      λ w. omega (arith, seat_below (seat (goal.at.stands_beside-right-requires c).After-slot_relay-i) w, c.requires.0.there),
-      omega (arith, c.loop-j-test.true, c.requires.1.there),
-    )
+stands_beside-right-requires c = (
+  c.slot_relay-i.ensures.1,
+  λ w. omega (arith, seat_below (seat (goal.at.stands_beside-right-requires c).After-slot_relay-i) w, c.requires.0.there),
+  omega (arith, c.loop-j-test.true, c.requires.1.there),
+)
 
 pub bounds-home-j : goal.bounds-home-j
 bounds-home-j c =

@@ -1,6 +1,5 @@
 -- `survey::stands_beside` meets its contract, as the relay has room or none. Assumes nothing.
 use borrow.Author.Tests.{lt-ltb, le-ltb}
-use borrow.Author.Rules.{rules}
 use Rattle.survey.proofs.stands_beside.Goals as goal
 
 pub relay_number-requires : goal.relay_number-requires

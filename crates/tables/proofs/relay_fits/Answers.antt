@@ -1,7 +1,6 @@
 -- `tables::relay_fits` meets its contract: the definition's two tests, in its order. Assumes nothing.
 use mathlib.Core.Path.{◌∙◌}
 use Rattle.tables.specs.Shape.{relay_fits}
-use borrow.Author.Rules.{rules}
 use Rattle.tables.proofs.relay_fits.Goals as goal
 
 pub returns : goal.returns

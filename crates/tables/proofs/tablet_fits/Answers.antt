@@ -1,7 +1,6 @@
 -- `tables::tablet_fits` meets its contract: the definition's two tests, in its order. Assumes nothing.
 use mathlib.Core.Path.{◌∙◌}
 use Rattle.tables.specs.Shape.{tablet_fits}
-use borrow.Author.Rules.{rules}
 use Rattle.tables.proofs.tablet_fits.Goals as goal
 
 pub returns : goal.returns

@@ -1,6 +1,5 @@
 -- `tally::count` meets its contract: of four numbers each is stored anew, and a tally of another length is left. Assumes nothing.
 use native.Mathlib.Omega.{arith}
-use borrow.Author.Rules.{rules}
 use lib.ListN.{length-set}
 use Rattle.tally.specs.Counted.{tally_of, counts}
 use Rattle.tally.proofs.Counts.{tallied_four, tallied_other}

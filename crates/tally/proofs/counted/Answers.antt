@@ -1,6 +1,5 @@
 -- `tally::counted` meets its contract: an accepted call is counted with its moves, a refused one as a refusal alone. Assumes nothing.
 use mathlib.Core.Path.{ap, ◌∙◌}
-use borrow.Author.Rules.{rules}
 use Rattle.rule.specs.Tally.{more}
 use Rattle.tally.proofs.Counts.{counted_done, counted_refused}
 use Rattle.tally.proofs.counted.Goals as goal

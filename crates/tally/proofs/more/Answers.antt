@@ -1,6 +1,5 @@
 -- `tally::more` meets its contract: the count either has room for so many more, or it stops. Assumes nothing.
 use native.Mathlib.Omega.{arith}
-use borrow.Author.Rules.{rules}
 use Rattle.rule.specs.Tally.{more}
 use Rattle.tally.proofs.more.Goals as goal
 

@@ -2,7 +2,6 @@
 use mathlib.Core.Path.{ap, ◌∙◌}
 use Rattle.rule.specs.declared.Reply.{Reply}
 use Rattle.rule.specs.Refusals.{number_of}
-use borrow.Author.Rules.{rules}
 use Rattle.wairepomuro.proofs.wairepomuro_balance.Goals as goal
 
 pub returns : goal.returns

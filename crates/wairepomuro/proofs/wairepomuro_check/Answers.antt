@@ -1,7 +1,6 @@
 -- `wairepomuro::wairepomuro_check` meets its contract: the number of what is refused. Assumes nothing.
 use mathlib.Core.Path.{ap, ◌∙◌}
 use Rattle.rule.specs.Refusals.{number_of}
-use borrow.Author.Rules.{rules}
 use Rattle.wairepomuro.proofs.wairepomuro_check.Goals as goal
 
 pub returns : goal.returns

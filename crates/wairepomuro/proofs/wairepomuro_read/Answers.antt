@@ -1,5 +1,4 @@
 -- `wairepomuro::wairepomuro_read` meets its contract: the promise of the reading, its refusal as a number. Assumes nothing.
-use borrow.Author.Rules.{rules}
 use Rattle.wairepomuro.proofs.Served.{serves_reading}
 use Rattle.wairepomuro.proofs.wairepomuro_read.Goals as goal
 

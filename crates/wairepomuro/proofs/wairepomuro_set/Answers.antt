@@ -1,5 +1,4 @@
 -- `wairepomuro::wairepomuro_set` meets its contract: the promise of the call, handed out. Assumes nothing.
-use borrow.Author.Rules.{rules}
 use Rattle.wairepomuro.proofs.Served.{serves_call}
 use Rattle.wairepomuro.proofs.wairepomuro_set.Goals as goal
 

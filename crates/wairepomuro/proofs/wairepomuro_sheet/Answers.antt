@@ -1,5 +1,4 @@
 -- `wairepomuro::wairepomuro_sheet` meets its contract: the promise of the sheet, its refusal as a number. Assumes nothing.
-use borrow.Author.Rules.{rules}
 use Rattle.wairepomuro.proofs.Served.{serves_sheet}
 use Rattle.wairepomuro.proofs.wairepomuro_sheet.Goals as goal
 

@@ -2,7 +2,6 @@
 -- answer's bits, which is the answer since it fits. Assumes nothing.
 use mathlib.Core.Bool.{true, false}
 use mathlib.Core.Path.{◌≡◌, subst}
-use borrow.Author.Rules.{rules}
 use lib.IntN.{ℤ, pos}
 use lib.ListN.{length}
 use lib.Signed.{lt_z}

@@ -1,6 +1,5 @@
 -- `watch::main` is safe and ends: the turns count down, and what is lent keeps its length. Assumes nothing.
 use mathlib.Core.Path.{◌≡◌}
-use borrow.Author.Rules.{rules}
 use lib.ListN.{length}
 use Rattle.watch.proofs.main.Given as goal
 

@@ -1,10 +1,6 @@
 -- `watch::take_chunk` is safe and ends: what is left of the chunk falls, what is lent keeps its length, and no more is due than the slice for the
 -- answer holds. Assumes nothing.
-use mathlib.Core.Path.{◌≡◌}
-use Prim.Native.Nat.{◌≤◌, ◌<◌, ◌-◌}
 use native.Mathlib.Omega.{arith}
-use borrow.Author.Rules.{rules}
-use lib.ListN.{length}
 use Rattle.input.proofs.Room.{takes_due}
 use Rattle.watch.proofs.take_chunk.Goals as goal
 

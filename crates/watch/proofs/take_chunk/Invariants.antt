@@ -2,10 +2,7 @@
 -- answer holds. Assumes nothing.
 use mathlib.Core.Path.{◌≡◌}
 use Prim.Native.Nat.{◌≤◌, ◌<◌, ◌-◌}
-use native.Mathlib.Omega.{arith}
-use borrow.Author.Rules.{rules}
 use lib.ListN.{length}
-use Rattle.input.proofs.Room.{takes_due}
 use Rattle.watch.proofs.take_chunk.Given as goal
 
 abbrev pub invariant-loop-i : goal.invariant-loop-i

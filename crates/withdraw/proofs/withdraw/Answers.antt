@@ -8,7 +8,6 @@ use Rattle.seat.proofs.Slotted.{start_slotted}
 use Rattle.seat.proofs.Replies.{missing_withdraw, seat_refused}
 use Rattle.withdraw.proofs.Known.{start_sweeps}
 use Rattle.withdraw.proofs.Outcomes.{stands, withdraw_short, withdraw_fillers, withdraw_done}
-use borrow.Author.Rules.{rules}
 use Rattle.withdraw.proofs.withdraw.Goals as goal
 
 pub returns-then-not-done : goal.returns-then-not-done

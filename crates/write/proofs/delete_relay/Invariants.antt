@@ -1,14 +1,10 @@
 -- `write::delete_relay` meets its contract. The invariant: the table is as long as it was, the places below `at` and from i on are as they were,
 -- and those from `at` to i hold what stood one further on. The measure is what is left up to the last entry. Assumes nothing.
-use mathlib.Core.Path.{◌≡◌, refl, ap₂, ◌∙◌}
+use mathlib.Core.Path.{◌≡◌}
 use Prim.Native.Nat.{◌-◌, ◌≤◌}
-use native.Mathlib.Nat.{le_refl}
-use native.Mathlib.Omega.{arith}
 use lib.ListN.{length}
-use Rattle.rule.specs.Entry.{entry}
-use Rattle.tables.specs.Table.{relay_places}
-use Rattle.write.proofs.Shifts.{Lowered, lowered_start, lowered_next, lowered_end}
-use Rattle.write.proofs.Written.{relay_at, set_changed, took_out}
+use Rattle.write.proofs.Shifts.{Lowered}
+use Rattle.write.proofs.Written.{relay_at}
 use Rattle.write.proofs.delete_relay.Given as goal
 
 abbrev pub invariant-loop-i : goal.invariant-loop-i

@@ -1,14 +1,10 @@
 -- `write::delete_tablet` meets its contract. The invariant: the table is as long as it was, the places below `at` and from j on are as they were,
 -- and those from `at` to j hold what stood one further on. The measure is what is left up to the last entry. Assumes nothing.
-use mathlib.Core.Path.{◌≡◌, refl, ap₂, ◌∙◌}
+use mathlib.Core.Path.{◌≡◌}
 use Prim.Native.Nat.{◌-◌, ◌≤◌}
-use native.Mathlib.Nat.{le_refl}
-use native.Mathlib.Omega.{arith}
 use lib.ListN.{length}
-use Rattle.rule.specs.Entry.{entry}
-use Rattle.tables.specs.Table.{tablet_places}
-use Rattle.write.proofs.Shifts.{Lowered, lowered_start, lowered_next, lowered_end}
-use Rattle.write.proofs.Written.{tablet_at, set_changed, took_out}
+use Rattle.write.proofs.Shifts.{Lowered}
+use Rattle.write.proofs.Written.{tablet_at}
 use Rattle.write.proofs.delete_tablet.Given as goal
 
 abbrev pub invariant-loop-j : goal.invariant-loop-j

@@ -1,14 +1,12 @@
 -- `write::insert_relay` meets its contract. The invariant: the table is as long as it was, the places below i and behind place n are as they were,
 -- and those from i to n stand one further on. The measure is i. Assumes nothing.
-use mathlib.Core.Path.{◌≡◌, refl, ap₂, ◌∙◌}
-use Prim.Native.Nat.{◌≤◌}
+use mathlib.Core.Path.{refl, ap₂, ◌∙◌}
 use native.Mathlib.Nat.{le_refl}
 use native.Mathlib.Omega.{arith}
-use lib.ListN.{length}
 use Rattle.rule.specs.Entry.{entry}
 use Rattle.tables.specs.Table.{relay_places}
-use Rattle.write.proofs.Shifts.{Raised, raised_start, raised_next, raised_end}
-use Rattle.write.proofs.Written.{relay_at, set_changed, wrote_relays}
+use Rattle.write.proofs.Shifts.{raised_start, raised_next, raised_end}
+use Rattle.write.proofs.Written.{set_changed, wrote_relays}
 use Rattle.write.proofs.insert_relay.Goals as goal
 
 pub loop-i-init : goal.loop-i-init

@@ -1,14 +1,10 @@
 -- `write::insert_relay` meets its contract. The invariant: the table is as long as it was, the places below i and behind place n are as they were,
 -- and those from i to n stand one further on. The measure is i. Assumes nothing.
-use mathlib.Core.Path.{◌≡◌, refl, ap₂, ◌∙◌}
+use mathlib.Core.Path.{◌≡◌}
 use Prim.Native.Nat.{◌≤◌}
-use native.Mathlib.Nat.{le_refl}
-use native.Mathlib.Omega.{arith}
 use lib.ListN.{length}
-use Rattle.rule.specs.Entry.{entry}
-use Rattle.tables.specs.Table.{relay_places}
-use Rattle.write.proofs.Shifts.{Raised, raised_start, raised_next, raised_end}
-use Rattle.write.proofs.Written.{relay_at, set_changed, wrote_relays}
+use Rattle.write.proofs.Shifts.{Raised}
+use Rattle.write.proofs.Written.{relay_at}
 use Rattle.write.proofs.insert_relay.Given as goal
 
 abbrev pub invariant-loop-i : goal.invariant-loop-i

@@ -1,14 +1,12 @@
 -- `write::insert_tablet` meets its contract. The invariant: the table is as long as it was, the places below j and behind place m are as they were,
 -- and those from j to m stand one further on. The measure is j. Assumes nothing.
-use mathlib.Core.Path.{◌≡◌, refl, ap₂, ◌∙◌}
-use Prim.Native.Nat.{◌≤◌}
+use mathlib.Core.Path.{refl, ap₂, ◌∙◌}
 use native.Mathlib.Nat.{le_refl}
 use native.Mathlib.Omega.{arith}
-use lib.ListN.{length}
 use Rattle.rule.specs.Entry.{entry}
 use Rattle.tables.specs.Table.{tablet_places}
-use Rattle.write.proofs.Shifts.{Raised, raised_start, raised_next, raised_end}
-use Rattle.write.proofs.Written.{tablet_at, set_changed, wrote_tablets}
+use Rattle.write.proofs.Shifts.{raised_start, raised_next, raised_end}
+use Rattle.write.proofs.Written.{set_changed, wrote_tablets}
 use Rattle.write.proofs.insert_tablet.Goals as goal
 
 pub loop-j-init : goal.loop-j-init

@@ -1,5 +1,4 @@
 -- `write::limit_relay` meets its contract: the numbers rise, so the limit is changed of the one entry with that number. Assumes nothing.
-use borrow.Author.Rules.{rules}
 use Rattle.write.proofs.Shifts.{changed_put}
 use Rattle.write.proofs.Written.{beside_changed, wrote_relays}
 use Rattle.write.proofs.limit_relay.Goals as goal

@@ -1,5 +1,4 @@
 -- `write::seat_tablet` meets its contract: the numbers rise, so the relay is changed of the one entry with that number. Assumes nothing.
-use borrow.Author.Rules.{rules}
 use Rattle.write.proofs.Shifts.{changed_put}
 use Rattle.write.proofs.Written.{beside_changed, wrote_tablets}
 use Rattle.write.proofs.seat_tablet.Goals as goal

@@ -1,12 +1,9 @@
 -- `entries::shape::relays_end` meets its contract. The invariant: `ok` says whether the first i places behind the entries are unused. Assumes
 -- nothing.
-use mathlib.Core.Path.{◌≡◌, refl}
+use mathlib.Core.Path.{◌≡◌}
 use Prim.Native.Nat.{◌-◌, ◌≤◌}
 use Rattle.tables.specs.Table.{relay_number, relay_limit}
 use Rattle.tables.specs.Shape.{all, unused_at}
-use Rattle.tables.proofs.Loops.{at_end}
-use Rattle.tables.proofs.Shaped.{unused_more}
-use native.Mathlib.Omega.{arith}
 use Rattle.entries.proofs.shape.relays_end.Given as goal
 
 abbrev pub invariant-loop-i : goal.invariant-loop-i

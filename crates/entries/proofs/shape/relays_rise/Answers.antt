@@ -1,9 +1,6 @@
 -- `entries::shape::relays_rise` meets its contract. The invariant: `ok` says whether the first i places are entries, and `before` is the number
 -- before place i. Assumes nothing.
-use mathlib.Core.Path.{◌≡◌, refl}
-use Prim.Native.Nat.{◌-◌, ◌≤◌}
-use Rattle.ring.specs.Most.{most_limit}
-use Rattle.tables.specs.Table.{relay_number, relay_limit}
+use mathlib.Core.Path.{refl}
 use Rattle.tables.specs.Shape.{all, previous, entry_at}
 use Rattle.tables.proofs.Loops.{at_end}
 use Rattle.tables.proofs.Shaped.{previous_more, entry_more}

@@ -1,13 +1,10 @@
 -- `entries::shape::relays_rise` meets its contract. The invariant: `ok` says whether the first i places are entries, and `before` is the number
 -- before place i. Assumes nothing.
-use mathlib.Core.Path.{◌≡◌, refl}
+use mathlib.Core.Path.{◌≡◌}
 use Prim.Native.Nat.{◌-◌, ◌≤◌}
 use Rattle.ring.specs.Most.{most_limit}
 use Rattle.tables.specs.Table.{relay_number, relay_limit}
 use Rattle.tables.specs.Shape.{all, previous, entry_at}
-use Rattle.tables.proofs.Loops.{at_end}
-use Rattle.tables.proofs.Shaped.{previous_more, entry_more}
-use native.Mathlib.Omega.{arith}
 use Rattle.entries.proofs.shape.relays_rise.Given as goal
 
 abbrev pub invariant-loop-i : goal.invariant-loop-i

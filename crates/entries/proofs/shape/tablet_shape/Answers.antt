@@ -1,7 +1,7 @@
 -- `entries::shape::tablet_shape` meets its contract: the definition's tests, in its order. Assumes nothing.
 use mathlib.Core.Bool.{true}
 use mathlib.Core.Path.{◌≡◌, sym, ◌∙◌}
-use borrow.Author.Tests.{not-true, not-false, lt-leb, le-leb}
+use borrow.Author.Tests.{lt-leb, le-leb}
 use native.Mathlib.Omega.{arith}
 use Prim.Native.Nat.{◌≤◌, ◌<◌}
 use Rattle.tables.specs.Table.{tablet_places}

@@ -1,8 +1,6 @@
 -- `entries::shape::tablets_end` meets its contract. The invariant: `ok` says whether the first j places behind the entries are unused. Assumes
 -- nothing.
-use mathlib.Core.Path.{◌≡◌, refl}
-use Prim.Native.Nat.{◌-◌, ◌≤◌}
-use Rattle.tables.specs.Table.{tablet_number, tablet_relay}
+use mathlib.Core.Path.{refl}
 use Rattle.tables.specs.Shape.{all, unused_at}
 use Rattle.tables.proofs.Loops.{at_end}
 use Rattle.tables.proofs.Shaped.{unused_more}

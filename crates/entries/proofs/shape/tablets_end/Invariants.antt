@@ -1,12 +1,9 @@
 -- `entries::shape::tablets_end` meets its contract. The invariant: `ok` says whether the first j places behind the entries are unused. Assumes
 -- nothing.
-use mathlib.Core.Path.{◌≡◌, refl}
+use mathlib.Core.Path.{◌≡◌}
 use Prim.Native.Nat.{◌-◌, ◌≤◌}
 use Rattle.tables.specs.Table.{tablet_number, tablet_relay}
 use Rattle.tables.specs.Shape.{all, unused_at}
-use Rattle.tables.proofs.Loops.{at_end}
-use Rattle.tables.proofs.Shaped.{unused_more}
-use native.Mathlib.Omega.{arith}
 use Rattle.entries.proofs.shape.tablets_end.Given as goal
 
 abbrev pub invariant-loop-j : goal.invariant-loop-j

@@ -1,9 +1,6 @@
 -- `entries::shape::tablets_rise` meets its contract. The invariant: `ok` says whether the first j places are entries, and `before` is the number
 -- before place j. Assumes nothing.
-use mathlib.Core.Path.{◌≡◌, refl}
-use Prim.Native.Nat.{◌-◌, ◌≤◌}
-use Rattle.ring.specs.Most.{top_number}
-use Rattle.tables.specs.Table.{tablet_number, tablet_relay}
+use mathlib.Core.Path.{refl}
 use Rattle.tables.specs.Shape.{all, previous, entry_at}
 use Rattle.tables.proofs.Loops.{at_end}
 use Rattle.tables.proofs.Shaped.{previous_more, entry_more}

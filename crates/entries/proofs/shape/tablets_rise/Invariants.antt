@@ -1,13 +1,10 @@
 -- `entries::shape::tablets_rise` meets its contract. The invariant: `ok` says whether the first j places are entries, and `before` is the number
 -- before place j. Assumes nothing.
-use mathlib.Core.Path.{◌≡◌, refl}
+use mathlib.Core.Path.{◌≡◌}
 use Prim.Native.Nat.{◌-◌, ◌≤◌}
 use Rattle.ring.specs.Most.{top_number}
 use Rattle.tables.specs.Table.{tablet_number, tablet_relay}
 use Rattle.tables.specs.Shape.{all, previous, entry_at}
-use Rattle.tables.proofs.Loops.{at_end}
-use Rattle.tables.proofs.Shaped.{previous_more, entry_more}
-use native.Mathlib.Omega.{arith}
 use Rattle.entries.proofs.shape.tablets_rise.Given as goal
 
 abbrev pub invariant-loop-j : goal.invariant-loop-j

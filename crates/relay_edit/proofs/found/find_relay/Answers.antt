@@ -1,9 +1,7 @@
 -- `relay_edit::found::find_relay` meets its contract: the look's refusal, and past it the relay's place among ascending numbers. Assumes nothing.
 use mathlib.Core.Path.{refl, sym, ◌∙◌}
-use borrow.Author.Tests.{not-true, not-false}
 use Rattle.ring.proofs.Tests.{true_false}
 use Rattle.call_start.proofs.Refusals.{start_rises}
-use borrow.Author.Rules.{rules}
 use Rattle.relay_edit.proofs.found.find_relay.Goals as goal
 
 pub returns-then-not-done : goal.returns-then-not-done

@@ -4,7 +4,6 @@ use native.Mathlib.Omega.{arith}
 use borrow.Author.Tests.{eq-eqb, ne_eqb}
 use Rattle.relay_edit.specs.Refused.{add_refusal}
 use Rattle.relay_edit.proofs.Bars.{bar_first, bar_next, bar_none}
-use borrow.Author.Rules.{rules}
 use Rattle.relay_edit.proofs.refused.add_refusal.Goals as goal
 
 pub returns-then-r-eq0 : goal.returns-then-r-eq0

@@ -5,7 +5,6 @@ use mathlib.Core.Path.{sym, ◌∙◌}
 use borrow.Author.Tests.{eq-eqb, ne_eqb}
 use Rattle.relay_edit.specs.Refused.{set_refusal}
 use Rattle.relay_edit.proofs.Bars.{bar_first, bar_next, bar_none}
-use borrow.Author.Rules.{rules}
 use Rattle.relay_edit.proofs.refused.set_refusal.Goals as goal
 
 pub returns-then-r-eq0 : goal.returns-then-r-eq0
