@@ -17,7 +17,7 @@ fn house() -> PathBuf {
 /// What `watch` writes, and that it says nothing else.
 fn watch(input: &[u8]) -> Vec<u8> {
     let program = house().join("target/bin/watch");
-    assert!(program.exists(), "no {}: run `rt check watch` first", program.display());
+    assert!(program.exists(), "no {}: run `make programs` first", program.display());
     let mut run = Command::new(program).stdin(Stdio::piped()).stdout(Stdio::piped()).stderr(Stdio::piped()).spawn().unwrap();
     let mut stdin = run.stdin.take().unwrap();
     let input = input.to_vec();
