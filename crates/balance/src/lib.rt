@@ -92,9 +92,6 @@ fn limit_for(p: u32, q: u32, tablets: u32, relays: u32) -> u32
     ensures { result ≡ balanced_limit p q tablets relays }
 {
     let share = rounded_up(p * tablets, q * relays);
-    if share <= ring::MOST_LIMIT {
-        share
-    } else {
-        ring::MOST_LIMIT
-    }
+    let fits = share <= ring::MOST_LIMIT;
+    if fits { share } else { ring::MOST_LIMIT }
 }

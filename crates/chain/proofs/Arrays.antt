@@ -227,11 +227,11 @@ module _ (x : ℕ) (rs ts : List ℕ) where
         (omega arith) in
         let other : (i : ℕ) → i ≤ c → get_or (set place (c + 1) (l - 1)) i 0 ≡ get_or place i 0 =
         λ i h. get_or-set_other place (c + 1) i (l - 1) 0 (λ (z : i ≡ c + 1). omega arith) in
-        let seat-here : get_or (set seat c r) c 0 ≡ r = get_or-set_same seat c r 0 (omega arith) in
+        let seat_here : get_or (set seat c r) c 0 ≡ r = get_or-set_same seat c r 0 (omega arith) in
         rw (add-one c)
         (record {
           walker = eg ∙ ap (tablet_number ts) (sym (rw (add-one c) at here));
-          from = en ∙ ap (relay_number rs) (sym seat-here);
+          from = en ∙ ap (relay_number rs) (sym seat_here);
           chain = ap (seats s) en ∙ sat (set place (suc c) (l - 1)) (λ i h. rw (add-one c) at (other i h));
           places = λ i a b. stored_place i a b;
           relays = λ i a. stored_seat i a;

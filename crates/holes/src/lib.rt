@@ -60,7 +60,8 @@ fn next_mover<'a>(
     ensures { Next home.now slot.now m i result }
 {
     let relay = order::slot_relay(keys, ring::from_u8(slot[i]));
-    if 0 < room[relay] {
+    let roomy = 0 < room[relay];
+    if roomy {
         m
     } else {
         next_passed(home, slot, m, i)

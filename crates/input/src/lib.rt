@@ -32,7 +32,8 @@ pub fn take_byte(
 {
     let stage = at.stage;
     let kept = at.kept;
-    if b == b'\n' {
+    let ends = b == b'\n';
+    if ends {
         return dialogue::answer_line(relays, tablets, moves, answer, stage, kept_part(line, kept));
     }
     let more = text::put_byte(line, kept, b);

@@ -128,7 +128,8 @@ fn with_two(letter: u8, n: Number, limit: Number) -> Line
 
 // Where the first space stands, or the length where there is none.
 fn space_at(rest: &[u8]) -> usize
-    ensures { (result ≡ space_at rest.now) × (result ≤ length rest.now) }
+    ensures value { result ≡ space_at rest.now }
+    ensures within { result ≤ length rest.now }
 {
     let mut i = 0;
     while i < rest.len() {

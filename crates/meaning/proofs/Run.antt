@@ -38,16 +38,16 @@ seated p rs ts n k = places (tablet_number ts) (λ j. relay_number rs (relay_for
 
 module _ (p : Positions) (rs ts : List ℕ) (n : ℕ) (few : n ≤ most_relays) (a : Ascending (relay_number rs) n) where
   -- the relays with the room that the first k tablets leave
-  abbrev open-now : ℕ → List Entry
-  open-now k = roomed rs (room_after p rs ts n k) n
+  abbrev open_now : ℕ → List Entry
+  open_now k = roomed rs (room_after p rs ts n k) n
 
   record Run (k : ℕ) : Type 0 where
-    pub left : total (open-now k) + k ≡ total (relays_in rs n)
-    pub room : (q : ℕ) → held (open-now k) q + load (seated p rs ts n k) q ≡ held (relays_in rs n) q
+    pub left : total (open_now k) + k ≡ total (relays_in rs n)
+    pub room : (q : ℕ) → held (open_now k) q + load (seated p rs ts n k) q ≡ held (relays_in rs n) q
     pub filled : (xs : List ℕ) → fill (key p) (relays_in rs n) (numbers (tablets_in ts k) ++ xs)
-        ≡ seated p rs ts n k ++ fill (key p) (open-now k) xs
+        ≡ seated p rs ts n k ++ fill (key p) (open_now k) xs
 
-  at_start : open-now 0 ≡ relays_in rs n
+  at_start : open_now 0 ≡ relays_in rs n
   unfolding roomed room_after relay_limits
   at_start =
       places_ext (relay_number rs) (λ i. get_or (relay_limits rs n) i 0) (relay_number rs) (relay_limit rs) n (λ i h. refl)
@@ -74,11 +74,11 @@ module _ (p : Positions) (rs ts : List ℕ) (n : ℕ) (few : n ≤ most_relays) 
     unfolding relay_for
     first = first_chosen p rs n few a (room_after p rs ts n k) t (omega (arith, r.left))
 
-    here : 0 < held (open-now k) (relay_number rs c)
+    here : 0 < held (open_now k) (relay_number rs c)
     unfolding roomed
     here = omega (arith, held_places (λ i. get_or (room_after p rs ts n k) i 0) a c first.below, first.has_room)
 
-    after : less (relay_number rs c) (open-now k) ≡ open-now (suc k)
+    after : less (relay_number rs c) (open_now k) ≡ open_now (suc k)
     unfolding roomed room_after relay_for
     after =
         less_places n a (λ i. get_or (room_after p rs ts n k) i 0) (λ i. get_or (room_after p rs ts n (suc k)) i 0) c
@@ -91,12 +91,12 @@ module _ (p : Positions) (rs ts : List ℕ) (n : ℕ) (few : n ≤ most_relays) 
         })
 
     -- the tablet takes one room, where there is one
-    taken : (q : ℕ) → held (open-now (suc k)) q + cond (eqb (relay_number rs c) q) 1 0 ≡ held (open-now k) q
+    taken : (q : ℕ) → held (open_now (suc k)) q + cond (eqb (relay_number rs c) q) 1 0 ≡ held (open_now k) q
     taken q =
-        let e : held (open-now (suc k)) q ≡ held (open-now k) q - cond (eqb (relay_number rs c) q) 1 0 =
-        ap (λ (l : List Entry). held l q) (sym after) ∙ held_less (relay_number rs c) (open-now k) q in
+        let e : held (open_now (suc k)) q ≡ held (open_now k) q - cond (eqb (relay_number rs c) q) 1 0 =
+        ap (λ (l : List Entry). held l q) (sym after) ∙ held_less (relay_number rs c) (open_now k) q in
         split (eqb (relay_number rs c) q)
-        (λ s. rw s (omega (arith, rw s at e, here, ap (held (open-now k)) (eqb-true (relay_number rs c) q s))))
+        (λ s. rw s (omega (arith, rw s at e, here, ap (held (open_now k)) (eqb-true (relay_number rs c) q s))))
         (λ s. rw s (omega (arith, rw s at e)))
 
     and_others : (xs : List ℕ) → numbers (tablets_in ts (suc k)) ++ xs ≡ numbers (tablets_in ts k) ++ (t ∷ xs)
@@ -109,13 +109,13 @@ module _ (p : Positions) (rs ts : List ℕ) (n : ℕ) (few : n ≤ most_relays) 
     unfolding places
     run_step =
         record {
-          left = omega (arith, ap total after, total_less (relay_number rs c) (open-now k) here, r.left);
+          left = omega (arith, ap total after, total_less (relay_number rs c) (open_now k) here, r.left);
           room = λ q. omega (arith, Placing.load_more (seated p rs ts n k) t (relay_number rs c) q, taken q, r.room q);
           filled = λ xs.
               ap (fill (key p) (relays_in rs n)) (and_others xs) ∙ r.filled (t ∷ xs)
               ∙ unfold fill in (rw (← first.is, after)
               (sym (append_assoc (seated p rs ts n k) (entry t (relay_number rs c) ∷ [])
-              (fill (key p) (open-now (suc k)) xs))));
+              (fill (key p) (open_now (suc k)) xs))));
         }
 
   run : (k : ℕ) → k ≤ total (relays_in rs n) → Run k

@@ -253,7 +253,7 @@ module _ {s : ℕ} {rs ts : List ℕ} {n m : ℕ} {v : Survey} (b : Start s rs t
             ∙ up_to_places (has_room (tablets_in ts m)) (round_number rs keys n h) (round_limit rs keys n h) n d
             (steps_inside n h in_ring stop stop_inside) none_before room_there
 
-        module _ (Some-number : 0 < x) (new : has (tablets_in ts m) x ≡ false) where
+        module _ (some_number : 0 < x) (new : has (tablets_in ts m) x ≡ false) where
           not_in : In x (numbers (tablets_in ts m)) → ⊥
           not_in i = true_false (sym (in_has (tablets_in ts m) x i) ∙ new)
 
@@ -263,12 +263,12 @@ module _ {s : ℕ} {rs ts : List ℕ} {n m : ℕ} {v : Survey} (b : Start s rs t
           abbrev chain : Chain (tablets_in ts m) x
               (seats (turn (tablets_in ts m) (newcomer x) (up_to (has_room (tablets_in ts m)) (order p x (relays_in rs n))))
               f.number)
-          chain = enrol_chain p ring right t Some-number not_in many f the_first
+          chain = enrol_chain p ring right t some_number not_in many f the_first
 
           pub steps_passed : passed p (ring_of rs ts) (Enrol t) ≡ d
           steps_passed =
               ap (λ (g : Ring). passed p g (Enrol t)) (start_ring b)
-              ∙ enrol_passed p ring right t Some-number not_in many
+              ∙ enrol_passed p ring right t some_number not_in many
               ∙ ap length the_fulls ∙ length_places (round_number rs keys n h) (round_limit rs keys n h) d
 
           module _ {c y : ℕ} {place seat : List ℕ} (w : Chained rs ts n m keys h stop x c y place seat) where
@@ -295,7 +295,7 @@ module _ {s : ℕ} {rs ts : List ℕ} {n m : ℕ} {v : Survey} (b : Start s rs t
             pub others_moves : moves p (ring_of rs ts) (Enrol t) ≡ others_of x rs ts place seat c
             others_moves =
                 ap (λ (g : Ring). moves p g (Enrol t)) (start_ring b)
-                ∙ enrol_moves p ring right t Some-number not_in many f the_first ∙ the_rest
+                ∙ enrol_moves p ring right t some_number not_in many f the_first ∙ the_rest
 
             pub others_above : Rising x (tablets_listed (others_of x rs ts place seat c))
             others_above = subst (λ (z : List Move). Rising x (tablets_listed z)) the_rest chain.up
@@ -303,13 +303,13 @@ module _ {s : ℕ} {rs ts : List ℕ} {n m : ℕ} {v : Survey} (b : Start s rs t
             pub first_relay : relay_of p (ring_of rs ts) (Enrol t) ≡ relay_number rs (get_or seat 0 0)
             first_relay =
                 ap (λ (g : Ring). relay_of p g (Enrol t)) (start_ring b)
-                ∙ enrol_relay p ring right t Some-number not_in many f the_first ∙ the_seat
+                ∙ enrol_relay p ring right t some_number not_in many f the_first ∙ the_seat
 
             pub others_after : (Calls.after p (ring_of rs ts) (Enrol t)).tablets ≡ seated (others_of x rs ts place seat c)
                 (insert x (relay_number rs (get_or seat 0 0)) (tablets_in ts m))
             others_after =
                 ap (λ (g : Ring). (Calls.after p g (Enrol t)).tablets) (start_ring b)
-                ∙ enrol_after p ring right t Some-number not_in many f the_first
+                ∙ enrol_after p ring right t some_number not_in many f the_first
                 ∙ ap (λ (z : List Move). seated z (insert x chain.seat (tablets_in ts m))) the_rest
                 ∙ ap (λ (z : ℕ). seated (others_of x rs ts place seat c) (insert x z (tablets_in ts m))) the_seat
 

@@ -81,7 +81,8 @@ fn moves_fit(
     ensures { result ≡ leb (length (changes_to relays.now relay.now tablets.now m))
         places }
 {
-    if m <= places {
+    let enough = m <= places;
+    if enough {
         return true;
     }
     count_moves(relays, relay, tablets, m) <= places

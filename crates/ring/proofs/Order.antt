@@ -58,11 +58,11 @@ ahead_by p x g = (2 ^ 32 - p.tablet_at g + (2 ^ 32 - (2 ^ 32 - p.tablet_at x))) 
 turned : (p : Positions) (x g r : ℕ) → distance p g r ≡ (distance p x r + ahead_by p x g) % 2 ^ 32
 unfolding distance clockwise ahead_by
 turned p x g r =
-    let to-g : ℕ = 2 ^ 32 - p.tablet_at g in
-    let to-x : ℕ = 2 ^ 32 - p.tablet_at x in
-    let e : p.relay_at r + to-g + 2 ^ 32 ≡ p.relay_at r + to-x + (to-g + (2 ^ 32 - to-x)) = omega arith in
-    sym (add-mod_right (p.relay_at r + to-g) (2 ^ 32)) ∙ ap (λ (n : ℕ). n % 2 ^ 32) e
-    ∙ add-mod (p.relay_at r + to-x) (to-g + (2 ^ 32 - to-x)) (2 ^ 32)
+    let to_g : ℕ = 2 ^ 32 - p.tablet_at g in
+    let to_x : ℕ = 2 ^ 32 - p.tablet_at x in
+    let e : p.relay_at r + to_g + 2 ^ 32 ≡ p.relay_at r + to_x + (to_g + (2 ^ 32 - to_x)) = omega arith in
+    sym (add-mod_right (p.relay_at r + to_g) (2 ^ 32)) ∙ ap (λ (n : ℕ). n % 2 ^ 32) e
+    ∙ add-mod (p.relay_at r + to_x) (to_g + (2 ^ 32 - to_x)) (2 ^ 32)
 
 distance_less : (p : Positions) (t r : ℕ) → distance p t r < 2 ^ 32
 unfolding distance clockwise

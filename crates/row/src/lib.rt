@@ -115,7 +115,8 @@ pub fn take(
     let i = order::slot_relay(keys, k);
     let left = room[i] - 1;
     room[i] = left;
-    if left == 0 {
+    let full = left == 0;
+    if full {
         let to = led_to(next, k + 1);
         redirect(next, k as u8, to as u8);
     }

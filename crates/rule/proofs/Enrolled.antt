@@ -157,10 +157,10 @@ module _ (p : Positions) (rs : List Entry) (t : Table rs) (p₀ : List Entry) (x
         → first (stops es w) ahead ≡ some e → has_room es e ≡ true
         → insert w e.number es ≡ goal
     unfolding has_room
-    settled es w ahead steps i e h open-there =
+    settled es w ahead steps i e h open_there =
         walk_settle (key p) rs p₀ x (λ r. r < 2 ^ 32) (λ n r q. key_apart p n r q) (held_small p rs t) es w
         i.walking up₀ e.number (stop_fair es w ahead steps i e h)
-        (omega (arith, ltb-true (load es e.number) e.beside open-there, held_there es w ahead steps i e h))
+        (omega (arith, ltb-true (load es e.number) e.beside open_there, held_there es w ahead steps i e h))
 
     walk_ends : (steps : ℕ) (es : List Entry) (w : ℕ) (ahead : List Entry) → Walking steps es w ahead
         → ((walk steps p rs es w ahead).tablets ≡ goal)
@@ -185,14 +185,14 @@ module _ (p : Positions) (rs : List Entry) (t : Table rs) (p₀ : List Entry) (x
 
 -- ---- an enrolment
 
-module _ (p : Positions) (g : Ring) (r : Right p g) (x : ℕ) (Some-number : 0 < x)
+module _ (p : Positions) (g : Ring) (r : Right p g) (x : ℕ) (some_number : 0 < x)
     (new : In x (numbers g.tablets) → ⊥) (room : length g.tablets < total g.relays) where
   start : Walking p g.relays r.relays g.tablets x (suc (length g.tablets)) g.tablets x
       (order p x g.relays)
   unfolding above
   start =
       record {
-        walking = walk_start (key p) g.relays g.tablets x (right_stable p g r) r.tablets.up Some-number new;
+        walking = walk_start (key p) g.relays g.tablets x (right_stable p g r) r.tablets.up some_number new;
         few = room;
         bound = omega (arith, count_length (λ e. ltb x e.number) g.tablets);
         inside = λ e i. order_in p x g.relays e i;
@@ -201,7 +201,7 @@ module _ (p : Positions) (g : Ring) (r : Right p g) (x : ℕ) (Some-number : 0 <
       }
 
   up₀ : Rising 0 (numbers (insert x 0 g.tablets))
-  up₀ = rising_insert x 0 g.tablets 0 Some-number r.tablets.up new
+  up₀ = rising_insert x 0 g.tablets 0 some_number r.tablets.up new
 
   pub enrolled_placement : placement p g.relays (numbers (insert x 0 g.tablets))
       ≡ some (enrolled p g.relays g.tablets x).tablets
@@ -217,4 +217,4 @@ module _ (p : Positions) (g : Ring) (r : Right p g) (x : ℕ) (Some-number : 0 <
   unfolding enrolled
   enrolled_rising =
       (walk_ends p g.relays r.relays g.tablets x up₀ (suc (length g.tablets)) g.tablets x
-      (order p x g.relays) start).1 0 Some-number
+      (order p x g.relays) start).1 0 some_number

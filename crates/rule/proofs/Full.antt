@@ -52,17 +52,17 @@ module _ (p : Positions) (g : Ring) (r : Right p g) where
     abbrev own : ℕ
     own = beside_of g.tablets t
 
-    abbrev is-own : Entry → Bool
-    is-own e = eqb e.number own
+    abbrev is_own : Entry → Bool
+    is_own e = eqb e.number own
 
     -- in a list by rising key, who stands up to one of that number has another number, and no greater key
     up_to_lem : (l : List Entry) → Sorted (key p t) l → (o : Entry) → Among o l → o.number ≡ own → (e : Entry)
-        → Among e (up_to is-own l)
+        → Among e (up_to is_own l)
         → Among e l × ((e.number ≡ own → ⊥) × (key p t e.number ≤ key p t own))
     unfolding up_to
     up_to_lem [] up o j h e = λ i. absurd i
     up_to_lem (x ∷ l) up o j h e =
-        split (is-own x)
+        split (is_own x)
         (λ s. rw (s, up_to) (λ i. absurd i))
         (λ s. rw (s, up_to)
         (λ i. ⊎_elim
@@ -85,7 +85,7 @@ module _ (p : Positions) (g : Ring) (r : Right p g) where
         held_among g.relays own
         (omega (arith, (right_stable p g r t own (has_sits g.tablets 0 t r.tablets.up there)).room))
 
-    pub ahead_full : (e : Entry) → Among e (up_to is-own (order p t g.relays)) → full g.tablets e ≡ true
+    pub ahead_full : (e : Entry) → Among e (up_to is_own (order p t g.relays)) → full g.tablets e ≡ true
     unfolding had_passed full
     ahead_full e i =
         let o : (o : Entry) × Among o g.relays × (o.number ≡ own) = own_relay in
@@ -94,10 +94,10 @@ module _ (p : Positions) (g : Ring) (r : Right p g) where
         (in_order p t g.relays o.0 o.1) o.2 e i in
         let j : Among e g.relays = order_in p t g.relays e d.0 in
         let small : e.number < 2 ^ 32 = r.relays.small e j in
-        let own-small : own < 2 ^ 32 = omega (arith, r.relays.small o.0 o.1, o.2) in
+        let own_small : own < 2 ^ 32 = omega (arith, r.relays.small o.0 o.1, o.2) in
         let nearer : key p t e.number < key p t own = let z : key p t e.number ≡ key p t own
-        → ⊥ = λ k. d.1.0 (key_apart p t e.number own small own-small k) in omega (arith, d.1.1) in
-        let passed : sooner p t e.number own ≡ true = sooner_key p t e.number own small own-small
+        → ⊥ = λ k. d.1.0 (key_apart p t e.number own small own_small k) in omega (arith, d.1.1) in
+        let passed : sooner p t e.number own ≡ true = sooner_key p t e.number own small own_small
         ∙ lt-ltb (key p t e.number) (key p t own) nearer in
         eq-eqb (load g.tablets e.number) e.beside
         (split (ltb (load g.tablets e.number) e.beside)

@@ -296,7 +296,7 @@ module _ (ts : List Entry) (x : ℕ) where
         (turn_chain cs s c (further s e cs k) d.1 h')))))
 
 -- the move list of an enrolment is its chain behind the newcomer
-module _ (ts : List Entry) (up : Rising 0 (numbers ts)) (x : ℕ) (Some-number : 0 < x)
+module _ (ts : List Entry) (up : Rising 0 (numbers ts)) (x : ℕ) (some_number : 0 < x)
     (new : In x (numbers ts) → ⊥) where
   pub chain_seated : (ms : List Move) (c : Chain ts x ms) → seated ms (insert x 0 ts)
       ≡ seated c.rest (insert x c.seat ts)
@@ -307,7 +307,7 @@ module _ (ts : List Entry) (up : Rising 0 (numbers ts)) (x : ℕ) (Some-number :
   pub turn_moves : (ms : List Move) (c : Chain ts x ms) → moved ts (seated ms (insert x 0 ts)) ≡ c.rest
   turn_moves ms c =
       ap (moved ts) (chain_seated ms c)
-      ∙ moved_seated ts (insert x c.seat ts) c.rest (rising_insert x c.seat ts 0 Some-number up new)
+      ∙ moved_seated ts (insert x c.seat ts) c.rest (rising_insert x c.seat ts 0 some_number up new)
       (rising_low (tablets_listed c.rest) x 0 (omega arith) c.up)
       (λ m i.
       let s : Sits ts m.tablet.0 m.old.0 = c.sat m i in

@@ -38,7 +38,7 @@ use Rattle.rule.proofs.Accepted.{after_is}
 
 -- ---- an enrolment
 
-module _ (p : Positions) (g : Ring) (r : Right p g) (t : TabletNumber) (Some-number : 0 < t.0)
+module _ (p : Positions) (g : Ring) (r : Right p g) (t : TabletNumber) (some_number : 0 < t.0)
     (new : In t.0 (numbers g.tablets) → ⊥) (room : length g.tablets < total g.relays) where
   abbrev x : ℕ
   x = t.0
@@ -62,15 +62,15 @@ module _ (p : Positions) (g : Ring) (r : Right p g) (t : TabletNumber) (Some-num
     unfolding edited
     enrol_after =
         after_is p g (Enrol t) r.relays (omega (arith, length_insert x 0 g.tablets))
-        ∙ sym (turn_placement p g r x Some-number new f h)
-        ∙ chain_seated g.tablets r.tablets.up x Some-number new (chain_to f) enrol_chain
+        ∙ sym (turn_placement p g r x some_number new f h)
+        ∙ chain_seated g.tablets r.tablets.up x some_number new (chain_to f) enrol_chain
 
     pub enrol_moves : moves p g (Enrol t) ≡ enrol_chain.rest
     unfolding moves edited
     enrol_moves =
         ap (moved g.tablets) (after_is p g (Enrol t) r.relays (omega (arith, length_insert x 0 g.tablets))
-        ∙ sym (turn_placement p g r x Some-number new f h))
-        ∙ turn_moves g.tablets r.tablets.up x Some-number new (chain_to f) enrol_chain
+        ∙ sym (turn_placement p g r x some_number new f h))
+        ∙ turn_moves g.tablets r.tablets.up x some_number new (chain_to f) enrol_chain
 
     -- the newcomer's relay is where it sat down first
     pub enrol_relay : relay_of p g (Enrol t) ≡ enrol_chain.seat
@@ -78,7 +78,7 @@ module _ (p : Positions) (g : Ring) (r : Right p g) (t : TabletNumber) (Some-num
     enrol_relay = ap (λ (l : List Entry). beside_of l x) enrol_after ∙ seat_stays
       where
         up₁ : Rising 0 (numbers (insert x enrol_chain.seat g.tablets))
-        up₁ = rising_insert x enrol_chain.seat g.tablets 0 Some-number r.tablets.up new
+        up₁ = rising_insert x enrol_chain.seat g.tablets 0 some_number r.tablets.up new
 
         seat_stays : beside_of (seated enrol_chain.rest (insert x enrol_chain.seat g.tablets)) x
             ≡ enrol_chain.seat

@@ -107,8 +107,8 @@ unfolding turn
 turn_last ts s [] c = refl
 turn_last ts s (e ∷ cs) c = turn_last ts (turn_at ts s e) cs c
 
-module _ (p : Positions) (rs : List Entry) (t : Table rs) (ts : List Entry) (up-ts : Rising 0 (numbers ts))
-    (loads-ts : (q : ℕ) → load ts q ≤ held rs q) (x : ℕ) where
+module _ (p : Positions) (rs : List Entry) (t : Table rs) (ts : List Entry) (up_ts : Rising 0 (numbers ts))
+    (loads_ts : (q : ℕ) → load ts q ≤ held rs q) (x : ℕ) where
   -- q is the larger table with everybody who sat down, es the same without w, who walks; the relays ahead are still to come
   record Turning (q es : List Entry) (w : ℕ) (ahead : List Entry) : Type 0 where
     pub without : delete w q ≡ es
@@ -155,7 +155,7 @@ module _ (p : Positions) (rs : List Entry) (t : Table rs) (ts : List Entry) (up-
 
     -- nobody at the next relay is greater, and it is full: it is not open, and is passed
     passed : load ts c.number ≡ held rs c.number → greatest ts c.number ≤ w → Turning q es w cs
-    passed full low-there =
+    passed full low_there =
         record {
           without = i.without;
           walking = i.walking;
@@ -182,7 +182,7 @@ module _ (p : Positions) (rs : List Entry) (t : Table rs) (ts : List Entry) (up-
     abbrev g : ℕ
     g = greatest ts c.number
 
-    module _ (full : load ts c.number ≡ held rs c.number) (above-w : w < g) where
+    module _ (full : load ts c.number ≡ held rs c.number) (above_w : w < g) where
       g_sits : Sits es g c.number
       g_sits = i.holds_still c (inl refl) g (greatest_sits ts c.number (omega arith))
 
@@ -206,12 +206,12 @@ module _ (p : Positions) (rs : List Entry) (t : Table rs) (ts : List Entry) (up-
           ∙ delete_insert g w c.number es 0 i.walking.up ne_wg
 
       walk' : Walk (key p) rs ts x es' g
-      walk' = walk_evict (key p) rs ts x es w i.walking c.number g (next_fair open_here) g_sits above-w top
+      walk' = walk_evict (key p) rs ts x es w i.walking c.number g (next_fair open_here) g_sits above_w top
 
       opened : (r : ℕ) → lower es' r g < held rs r → (c.number ≡ r → ⊥) × (key p g c.number ≤ key p g r)
           × (lower es r w < held rs r)
       opened r o =
-          evict_open (key p) rs ts x es w i.walking c.number g g_sits above-w top
+          evict_open (key p) rs ts x es w i.walking c.number g g_sits above_w top
           (i.loads c.number ∙ full) r o
 
       -- an open relay comes behind this one in the new walker's order
@@ -316,7 +316,7 @@ module _ (p : Positions) (rs : List Entry) (t : Table rs) (ts : List Entry) (up-
             unfold has_room in (omega (
               arith,
               ltb-false (load ts c.number) c.beside o,
-              loads-ts
+              loads_ts
                   c.number,
               among_held rs 0 t.up c j,
             ))
@@ -356,10 +356,10 @@ distinct_order p t [] d = tt
 distinct_order p t (e ∷ l) d =
     distinct_queued p t e (order p t l) (λ z j. d.0 z (order_in p t l z j), distinct_order p t l d.1)
 
-module _ (p : Positions) (g : Ring) (r : Right p g) (x : ℕ) (Some-number : 0 < x)
+module _ (p : Positions) (g : Ring) (r : Right p g) (x : ℕ) (some_number : 0 < x)
     (new : In x (numbers g.tablets) → ⊥) where
   up₀ : Rising 0 (numbers (insert x 0 g.tablets))
-  up₀ = rising_insert x 0 g.tablets 0 Some-number r.tablets.up new
+  up₀ = rising_insert x 0 g.tablets 0 some_number r.tablets.up new
 
   without_x : delete x (insert x 0 g.tablets) ≡ g.tablets
   without_x = delete_inserted x 0 g.tablets new
@@ -369,7 +369,7 @@ module _ (p : Positions) (g : Ring) (r : Right p g) (x : ℕ) (Some-number : 0 <
   start =
       record {
         without = without_x;
-        walking = walk_start (key p) g.relays g.tablets x (right_stable p g r) r.tablets.up Some-number new;
+        walking = walk_start (key p) g.relays g.tablets x (right_stable p g r) r.tablets.up some_number new;
         up = up₀;
         there = insert_in x 0 g.tablets x (inl refl);
         inside = λ e j. order_in p x g.relays e j;

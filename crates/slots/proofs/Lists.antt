@@ -103,27 +103,27 @@ module _ (g : Entry → Bool) where
   pub up_to_places : (f b : ℕ → ℕ) (n d : ℕ) → d < n → ((i : ℕ) → i < d → g (entry (f i) (b i)) ≡ false)
       → g (entry (f d) (b d)) ≡ true
       → up_to g (places f b n) ≡ places f b d
-  up_to_places f b zero d h none_there yes-there = absurd (omega arith)
-  up_to_places f b (suc n) zero h none_there yes-there =
-      ap (up_to g) (places_cons f b n) ∙ up_to_stop g (entry (f 0) (b 0)) (places (next f) (next b) n) yes-there
+  up_to_places f b zero d h none_there yes_there = absurd (omega arith)
+  up_to_places f b (suc n) zero h none_there yes_there =
+      ap (up_to g) (places_cons f b n) ∙ up_to_stop g (entry (f 0) (b 0)) (places (next f) (next b) n) yes_there
       ∙ unfold places in refl
-  up_to_places f b (suc n) (suc d) h none_there yes-there =
+  up_to_places f b (suc n) (suc d) h none_there yes_there =
       ap (up_to g) (places_cons f b n) ∙ up_to_go g (entry (f 0) (b 0)) (places (next f) (next b) n)
       (none_there 0 (omega arith))
       ∙ ap (λ (l : List Entry). entry (f 0) (b 0) ∷ l)
-      (up_to_places (next f) (next b) n d (omega arith) (λ i c. none_there (suc i) (omega arith)) yes-there)
+      (up_to_places (next f) (next b) n d (omega arith) (λ i c. none_there (suc i) (omega arith)) yes_there)
       ∙ sym (places_cons f b d)
 
   pub first_places : (f b : ℕ → ℕ) (n d : ℕ) → d < n → ((i : ℕ) → i < d → g (entry (f i) (b i)) ≡ false)
       → g (entry (f d) (b d)) ≡ true
       → first g (places f b n) ≡ some (entry (f d) (b d))
-  first_places f b zero d h none_there yes-there = absurd (omega arith)
-  first_places f b (suc n) zero h none_there yes-there =
-      ap (first g) (places_cons f b n) ∙ unfold first in (rw (yes-there, first))
-  first_places f b (suc n) (suc d) h none_there yes-there =
+  first_places f b zero d h none_there yes_there = absurd (omega arith)
+  first_places f b (suc n) zero h none_there yes_there =
+      ap (first g) (places_cons f b n) ∙ unfold first in (rw (yes_there, first))
+  first_places f b (suc n) (suc d) h none_there yes_there =
       ap (first g) (places_cons f b n) ∙ first_miss (entry (f 0) (b 0)) (places (next f) (next b) n)
       (none_there 0 (omega arith))
-      ∙ first_places (next f) (next b) n d (omega arith) (λ i c. none_there (suc i) (omega arith)) yes-there
+      ∙ first_places (next f) (next b) n d (omega arith) (λ i c. none_there (suc i) (omega arith)) yes_there
     where
       first_miss : (e : Entry) (l : List Entry) → g e ≡ false → first g (e ∷ l) ≡ first g l
       first_miss e l h = unfold first in (rw (h, first))

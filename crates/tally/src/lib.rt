@@ -71,7 +71,8 @@ pub fn counted(t: rule::Tally, c: rule::Call, r: rule::Reply) -> rule::Tally
 pub fn count(tally: &mut [u32], c: rule::Call, r: rule::Reply)
     ensures { tally.new ≡ tallied tally.old c r }
 {
-    if tally.len() == 4 {
+    let four = tally.len() == 4;
+    if four {
         let before = rule::Tally {
             enrolments: tally[0],
             withdrawals: tally[1],

@@ -1,5 +1,5 @@
 -- The promises of the C interface bind: two answers that a promise allows for one call are equal, with all that is lent afterwards.
---   shares_one, spans_one    balance and stretch; of the others `Answers-one` in `promise` says so
+--   shares_one, spans_one    balance and stretch; of the others `answers_one` in `promise` says so
 -- Assumes nothing.
 use mathlib.Core.List.{List}
 use mathlib.Core.Path.{◌≡◌, sym, ◌∙◌}

@@ -13,7 +13,7 @@ const STDOUT: i32 = 1;
 // A line is answered as its first 24 bytes are, so no more are kept (`answered_first` in `input`).
 const KEPT: usize = 24;
 
-// The longest answer: 44 bytes, and 35 for each of 4,096 moves (`Takes-whole` in `input`).
+// The longest answer: 44 bytes, and 35 for each of 4,096 moves (`takes_whole` in `input`).
 const ANSWER: usize = 44 + 35 * ring::MOST_TABLETS;
 
 // What a read brought: how many bytes are to be taken, and whether no more will come.
@@ -71,6 +71,7 @@ fn read_once(input: Stdin, chunk: &mut [u8]) -> isize
     }
 }
 
+// Reads once, and says what the read brought.
 fn bring(input: Stdin, chunk: &mut [u8], kept: usize) -> Brought
     requires { 0 < length chunk.old }
     ensures { result.count ≤ length chunk.new }

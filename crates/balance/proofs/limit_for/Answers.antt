@@ -14,10 +14,10 @@ pub rounded_up-share-requires : goal.rounded_up-share-requires
 rounded_up-share-requires c =
     (omega (arith, parts_some c.requires), omega (arith, parts_small c.requires), omega (arith, share_small c.requires))
 
-pub returns-then-share-le-MOST_LIMIT : goal.returns-then-share-le-MOST_LIMIT
+pub returns-then-fits : goal.returns-then-fits
 unfolding balanced_limit
-returns-then-share-le-MOST_LIMIT c = omega (arith, c.rounded_up-share.ensures)
+returns-then-fits c = omega (arith, c.rounded_up-share.ensures)
 
-pub returns-else-share-le-MOST_LIMIT : goal.returns-else-share-le-MOST_LIMIT
+pub returns-else-fits : goal.returns-else-fits
 unfolding balanced_limit
-returns-else-share-le-MOST_LIMIT c = omega (arith, c.rounded_up-share.ensures)
+returns-else-fits c = omega (arith, c.rounded_up-share.ensures)

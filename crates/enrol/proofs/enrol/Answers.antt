@@ -40,7 +40,8 @@ seat_others-requires c = (worked (goal.at.seat_others-requires c).Else-not-done)
 
 pub insert_tablet-requires : goal.insert_tablet-requires
 insert_tablet-requires c =
-    place_still (prepared (goal.at.insert_tablet-requires c).After-prepare-p) (done (goal.at.insert_tablet-requires c).Else-not-done) (c.seat_others.ensures _)
+    let back = goal.at.insert_tablet-requires c in
+    place_still (prepared back.After-prepare-p) (done back.Else-not-done) (c.seat_others.ensures _)
 
 pub overflow_cast-result : goal.overflow_cast-result
 overflow_cast-result c = omega (arith, (worked (goal.at.overflow_cast-result c).Else-not-done).short)
@@ -51,5 +52,6 @@ overflow_cast-result-2 c =
 
 pub returns : goal.returns
 returns c =
-    enrolled_answers (prepared (goal.at.returns c).After-prepare-p) (done (goal.at.returns c).Else-not-done) (c.seat_others.ensures _) _ _
+    let back = goal.at.returns c in
+    enrolled_answers (prepared back.After-prepare-p) (done back.Else-not-done) (c.seat_others.ensures _) _ _
     c.from_u8.ensures.0 c.relay_number-relay.ensures c.insert_tablet.ensures

@@ -16,13 +16,13 @@ pub next_passed-requires : goal.next_passed-requires
 next_passed-requires c =
     (c.requires.0.few, c.requires.1)
 
-pub returns-then-room-relay-gt0 : goal.returns-then-room-relay-gt0
+pub returns-then-roomy : goal.returns-then-roomy
 unfolding slot_room
-returns-then-room-relay-gt0 c =
+returns-then-roomy c =
     next_at_once c.requires.0 _ c.requires.1
     (omega (
       arith,
-      c.if-room-relay-gt0.true,
+      c.if-roomy.true,
       ap (λ (i : ℕ). get_or c.args.room.now i 0)
           (c.slot_relay-relay.ensures.0 ∙ ap (slot_relay c.args.keys.now)
           c.from_u8.ensures.0),

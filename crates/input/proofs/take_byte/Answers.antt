@@ -2,10 +2,10 @@
 use Rattle.input.proofs.Takes.{takes_end, takes_kept}
 use Rattle.input.proofs.take_byte.Goals as goal
 
-pub returns-then-b-eq10 : goal.returns-then-b-eq10
-returns-then-b-eq10 c =
-    takes_end c.if-b-eq10.true
+pub returns-then-ends : goal.returns-then-ends
+returns-then-ends c =
+    takes_end c.if-ends.true
     c.kept_part.ensures c.answer_line.ensures
 
 pub returns : goal.returns
-returns c = takes_kept c.if-b-eq10.false c.put_byte-more.ensures
+returns c = takes_kept c.if-ends.false c.put_byte-more.ensures

@@ -26,13 +26,21 @@ pub loop-i-init : goal.loop-i-init
 loop-i-init c = (omega arith, omega arith)
 
 pub loop-i-preserved : goal.loop-i-preserved
-loop-i-preserved c =
-    (omega (arith, c.loop-i-test.true), further c.args.rest.now c.loop-i.i c.loop-i-test.true c.if-rest-i-eq32.false c.loop-i.invariant.1)
+loop-i-preserved c = (
+  omega (arith, c.loop-i-test.true),
+  further c.args.rest.now c.loop-i.i c.loop-i-test.true c.if-rest-i-eq32.false c.loop-i.invariant.1,
+)
 
 pub returns-after-loop-i : goal.returns-after-loop-i
 returns-after-loop-i c =
-    (past c.args.rest.now c.loop-i.i c.loop-i.invariant.0 c.loop-i-test.false c.loop-i.invariant.1, c.loop-i.invariant.0)
+    record {
+      value = past c.args.rest.now c.loop-i.i c.loop-i.invariant.0 c.loop-i-test.false c.loop-i.invariant.1;
+      within = c.loop-i.invariant.0;
+    }
 
 pub returns-then-rest-i-eq32 : goal.returns-then-rest-i-eq32
 returns-then-rest-i-eq32 c =
-    (here c.args.rest.now c.loop-i.i c.loop-i-test.true c.if-rest-i-eq32.true c.loop-i.invariant.1, c.loop-i.invariant.0)
+    record {
+      value = here c.args.rest.now c.loop-i.i c.loop-i-test.true c.if-rest-i-eq32.true c.loop-i.invariant.1;
+      within = c.loop-i.invariant.0;
+    }

@@ -10,13 +10,13 @@ pub returns-then-end-rest : goal.returns-then-end-rest
 unfolding letter_of
 returns-then-end-rest c =
     let a = c.args in
-    c.with_one.ensures ∙ rest_one (a.letter ∷ []) a.rest.now c.space_at-end.ensures.0
+    c.with_one.ensures ∙ rest_one (a.letter ∷ []) a.rest.now c.space_at-end.ensures.value
     c.decimal-first.ensures c.if-end-rest.true
 
 pub returns : goal.returns
 unfolding letter_of
 returns c =
     let a = c.args in
-    c.with_two.ensures ∙ rest_two (a.letter ∷ []) a.rest.now c.space_at-end.ensures.0
-    c.decimal-first.ensures (omega (arith, c.if-end-rest.false, c.space_at-end.ensures.1))
+    c.with_two.ensures ∙ rest_two (a.letter ∷ []) a.rest.now c.space_at-end.ensures.value
+    c.decimal-first.ensures (omega (arith, c.if-end-rest.false, c.space_at-end.ensures.within))
     c.decimal-second.ensures

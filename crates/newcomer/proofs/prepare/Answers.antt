@@ -73,21 +73,25 @@ seek-sought-requires c = let b = found (goal.at.seek-sought-requires c).Else-not
 
 pub returns-then-not-sought : goal.returns-then-not-sought
 returns-then-not-sought c =
-    λ ms e. shut_plan (asked (goal.at.returns-then-not-sought c).After-newcomer_refusal-bar) (free (goal.at.returns-then-not-sought c).Else-not-done-2) c.seek-sought.ensures _ c.no_enrolment-then-not-sought.ensures
+    let back = goal.at.returns-then-not-sought c in
+    λ ms e. shut_plan (asked back.After-newcomer_refusal-bar) (free back.Else-not-done-2) c.seek-sought.ensures _ c.no_enrolment-then-not-sought.ensures
     (not-true _ c.if-not-sought.true)
 
 pub turn-chain-requires : goal.turn-chain-requires
 turn-chain-requires c =
-    (_, turn_from (asked (goal.at.turn-chain-requires c).After-newcomer_refusal-bar) (free (goal.at.turn-chain-requires c).Else-not-done-2) c.seek-sought.ensures (not-false _ c.if-not-sought.false))
+    let back = goal.at.turn-chain-requires c in
+    (_, turn_from (asked back.After-newcomer_refusal-bar) (free back.Else-not-done-2) c.seek-sought.ensures (not-false _ c.if-not-sought.false))
 
 pub returns-then-places-chain : goal.returns-then-places-chain
 returns-then-places-chain c =
-    λ ms e. short_plan (asked (goal.at.returns-then-places-chain c).After-newcomer_refusal-bar) (free (goal.at.returns-then-places-chain c).Else-not-done-2) c.seek-sought.ensures (not-false _ c.if-not-sought.false)
+    let back = goal.at.returns-then-places-chain c in
+    λ ms e. short_plan (asked back.After-newcomer_refusal-bar) (free back.Else-not-done-2) c.seek-sought.ensures (not-false _ c.if-not-sought.false)
     c.turn-chain.ensures
     _ c.no_enrolment-then-places-chain.ensures (omega (arith, e, c.if-places-chain.true))
 
 pub returns : goal.returns
 returns c =
-    λ ms e. whole_plan (asked (goal.at.returns c).After-newcomer_refusal-bar) (free (goal.at.returns c).Else-not-done-2) c.seek-sought.ensures (not-false _ c.if-not-sought.false)
+    let back = goal.at.returns c in
+    λ ms e. whole_plan (asked back.After-newcomer_refusal-bar) (free back.Else-not-done-2) c.seek-sought.ensures (not-false _ c.if-not-sought.false)
     c.turn-chain.ensures
     _ refl refl refl refl (omega (arith, e, c.if-places-chain.false))

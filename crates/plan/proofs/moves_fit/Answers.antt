@@ -4,11 +4,11 @@ use lib.Dec.{leb}
 use Rattle.plan.proofs.Changes.{count_fits}
 use Rattle.plan.proofs.moves_fit.Goals as goal
 
-pub returns-then-m-places : goal.returns-then-m-places
-returns-then-m-places c =
+pub returns-then-enough : goal.returns-then-enough
+returns-then-enough c =
     count_fits c.args.relays.now c.args.relay.now
     c.args.tablets.now c.args.m
-    c.args.places c.if-m-places.true
+    c.args.places c.if-enough.true
 
 pub count_moves-requires : goal.count_moves-requires
 count_moves-requires c = c.requires

@@ -28,14 +28,16 @@ pub redirect-requires : goal.redirect-requires
 redirect-requires c =
     c.requires.row.size
 
-pub returns-then-left-eq0 : goal.returns-then-left-eq0
-returns-then-left-eq0 c = (
-  less (goal.at.returns-then-left-eq0 c).After-slot_relay-i,
-  row_shut c.requires (less (goal.at.returns-then-left-eq0 c).After-slot_relay-i)
-      (omega (arith, had (goal.at.returns-then-left-eq0 c).After-slot_relay-i, c.if-left-eq0.true, c.requires.opens))
-      c.led_to-to.ensures.0 c.redirect.ensures,
-)
+pub returns-then-full : goal.returns-then-full
+returns-then-full c =
+    let back = goal.at.returns-then-full c in (
+      less back.After-slot_relay-i,
+      row_shut c.requires (less back.After-slot_relay-i)
+          (omega (arith, had back.After-slot_relay-i, c.if-full.true, c.requires.opens))
+          c.led_to-to.ensures.0 c.redirect.ensures,
+    )
 
-pub returns-else-left-eq0 : goal.returns-else-left-eq0
-returns-else-left-eq0 c =
-    (less (goal.at.returns-else-left-eq0 c).After-slot_relay-i, row_keeps c.requires (less (goal.at.returns-else-left-eq0 c).After-slot_relay-i) (λ w. c.if-left-eq0.false (omega (arith, had (goal.at.returns-else-left-eq0 c).After-slot_relay-i))))
+pub returns-else-full : goal.returns-else-full
+returns-else-full c =
+    let back = goal.at.returns-else-full c in
+    (less back.After-slot_relay-i, row_keeps c.requires (less back.After-slot_relay-i) (λ w. c.if-full.false (omega (arith, had back.After-slot_relay-i))))

@@ -26,8 +26,8 @@ inside c =
     points_inside c.requires _ c.loop-j-test.true c.loop-j.invariant.1.points
     c.place_of-i.ensures refl
 
-pub returns-then-sheet-m : goal.returns-then-sheet-m
-returns-then-sheet-m c = lists_short c.requires _ c.if-sheet-m.true
+pub returns-then-short : goal.returns-then-short
+returns-then-short c = lists_short c.requires _ c.if-short.true
 
 pub starts-next-requires : goal.starts-next-requires
 starts-next-requires c = housed_roomed c.requires
@@ -54,7 +54,7 @@ offset_bounds-sheet-at c = omega (arith, inside (goal.at.offset_bounds-sheet-at 
 
 pub bounds-sheet-at : goal.bounds-sheet-at
 bounds-sheet-at c =
-    omega (arith, inside (goal.at.bounds-sheet-at c).After-place_of-i, c.if-sheet-m.false)
+    omega (arith, inside (goal.at.bounds-sheet-at c).After-place_of-i, c.if-short.false)
 
 pub tablet_number-requires : goal.tablet_number-requires
 tablet_number-requires c =
@@ -85,5 +85,5 @@ loop-j-preserved c = (
 
 pub returns : goal.returns
 returns c =
-    lists_end c.requires _ c.if-sheet-m.false c.loop-j.invariant.0 c.loop-j-test.false
+    lists_end c.requires _ c.if-short.false c.loop-j.invariant.0 c.loop-j-test.false
     c.loop-j.invariant.1

@@ -130,7 +130,8 @@ bounds-slot-j c =
 
 pub take-requires : goal.take-requires
 take-requires c =
-    seat_takes (seat (goal.at.take-requires c).After-slot_relay-i) (opens (goal.at.take-requires c).Else-not-right)
+    let back = goal.at.take-requires c in
+    seat_takes (seat back.After-slot_relay-i) (opens back.Else-not-right)
 
 pub overflow_add-j : goal.overflow_add-j
 overflow_add-j c =
@@ -155,16 +156,17 @@ loop-j-smaller c =
 pub loop-j-preserved : goal.loop-j-preserved
 unfolding placed
 loop-j-preserved c =
+    let back = goal.at.loop-j-preserved c in
     let r = c.if-not-right.false in
-    let s = seat (goal.at.loop-j-preserved c).After-slot_relay-i in
+    let s = seat back.After-slot_relay-i in
     let e = c.take.ensures in (
       omega (arith, c.loop-j-test.true),
       r,
       all_more (placed_at _ _ _ _) c.loop-j.invariant.2
-          (sym (beside (goal.at.loop-j-preserved c).After-stands_beside-right (seat (goal.at.loop-j-preserved c).After-slot_relay-i)) ∙ r),
+          (sym (beside back.After-stands_beside-right (seat back.After-slot_relay-i)) ∙ r),
       c.home_of-h.ensures.begins,
-      surveyed_more s (opens (goal.at.loop-j-preserved c).Else-not-right)
-          (there (goal.at.loop-j-preserved c).In-loop-j) e.0 e.1,
+      surveyed_more s (opens back.Else-not-right)
+          (there back.In-loop-j) e.0 e.1,
     )
 
 pub returns-after-loop-j : goal.returns-after-loop-j
@@ -176,6 +178,7 @@ returns-after-loop-j c =
 pub returns-then-not-right : goal.returns-then-not-right
 unfolding placed
 returns-then-not-right c =
+    let back = goal.at.returns-then-not-right c in
     let r = c.if-not-right.true in
-    let e = beside (goal.at.returns-then-not-right c).After-stands_beside-right (seat (goal.at.returns-then-not-right c).After-slot_relay-i) in
+    let e = beside back.After-stands_beside-right (seat back.After-slot_relay-i) in
     (r ∙ all_false (placed_at _ _ _ _) _ c.loop-j-test.true (sym e ∙ r), λ t. absurd (false≢true (sym r ∙ t)))

@@ -5,13 +5,13 @@ use Rattle.tally.specs.Counted.{tally_of, counts}
 use Rattle.tally.proofs.Counts.{tallied_four, tallied_other}
 use Rattle.tally.proofs.count.Goals as goal
 
-pub bounds-tally-3-then-tally-eq4 : goal.bounds-tally-3-then-tally-eq4
-bounds-tally-3-then-tally-eq4 c = simp length-set (omega arith)
+pub bounds-tally-3-then-four : goal.bounds-tally-3-then-four
+bounds-tally-3-then-four c = simp length-set (omega arith)
 
-pub returns-then-tally-eq4 : goal.returns-then-tally-eq4
+pub returns-then-four : goal.returns-then-four
 unfolding tally_of counts
-returns-then-tally-eq4 c =
-    tallied_four _ _ _ c.if-tally-eq4.true c.counted-after.ensures
+returns-then-four c =
+    tallied_four _ _ _ c.if-four.true c.counted-after.ensures
 
-pub returns-else-tally-eq4 : goal.returns-else-tally-eq4
-returns-else-tally-eq4 c = tallied_other _ _ _ c.if-tally-eq4.false
+pub returns-else-four : goal.returns-else-four
+returns-else-four c = tallied_other _ _ _ c.if-four.false
