@@ -1,4 +1,4 @@
-# make test: everything that has to hold, from nothing. Its last line is `N passed, 0 failed`.
+# make test: everything that has to hold; what `rt ci` has passed on this machine it does not prove again. Its last line is `N passed, 0 failed`.
 .PHONY: test check programs archive install bench fmt clean
 
 PREFIX ?= /usr/local
