@@ -1,54 +1,34 @@
--- How `io` spells a number is how document 01 has it.
---   spelled    the fewest digits of a 32-bit number are its text
+-- How a number is printed is how document 01 has it.
+--   spelled    what is printed of a 32-bit number is its text
 -- Assumes nothing.
-use mathlib.Core.Path.{◌≡◌}
-use Prim.Native.Nat.{ℕ, zero, suc, ◌+◌, ◌-◌, ◌/◌, ◌%◌, ◌^◌, ◌≤◌, ◌<◌}
-use native.Mathlib.Decide.{dec_lt}
-use native.Mathlib.Nat.{pow-suc, one-le-pow, pow-le-pow_right}
+use mathlib.Core.List.{List, [], ◌∷◌, ◌++◌}
+use mathlib.Core.Path.{◌≡◌, refl, sym}
+use Prim.Native.Nat.{ℕ, zero, suc, ◌+◌, ◌/◌, ◌%◌, ◌≤◌, ◌<◌}
 use native.Mathlib.Omega.{arith}
 use borrow.Author.Tests.{lt-ltb, le-ltb}
-use Rattle.io.specs.Digits.{hex_digit_ascii, last_digits, IsDigitCount}
+use Rattle.std.specs.Fmt.{decimal}
+use Rattle.std.proofs.lemmas.Fmt.{AppendsLastDigit, decimal_from_appends, length-decimal-le}
 use Rattle.answer.specs.Text.{digits_by, number_text}
 
-last_digit : (n : ℕ) → hex_digit_ascii (n % 10) ≡ 48 + n % 10
-last_digit n = rw (lt-ltb (n % 10) 10 (omega arith))
+-- so many of the last digits
+last_digits : ℕ → ℕ → List ℕ
+last_digits zero n = []
+last_digits (suc more) n = digits_by more n
 
--- ten to the power of the digits before the last
-least_of : (n j : ℕ) → IsDigitCount 10 1 n (suc (suc j)) → 10 ^ suc j ≤ n
-least_of n j f = let e : suc (suc j) - 1 ≡ suc j = omega arith in rw e at (f.2 (omega arith))
-
--- the digits before the last are the fewest of the number without it
-fewest_before : (n j : ℕ) → IsDigitCount 10 1 n (suc (suc j)) → IsDigitCount 10 1 (n / 10) (suc j)
-fewest_before n j f =
-    let w : 10 ^ suc j ≤ n = least_of n j f in
-    let e : suc j - 1 ≡ j = omega arith in
-    let least : 10 ^ j ≤ n / 10 = omega (arith, w, pow-suc 10 j) in
-    (omega arith, omega (arith, f.1, pow-suc 10 (suc j)), λ h. rw e least)
-
-digits_by_lem : (more k n : ℕ) → IsDigitCount 10 1 n (suc k) → k ≤ more → last_digits 10 (suc k) n ≡ digits_by more n
+one_digit : (more n : ℕ) → n < 10 → digits_by more n ≡ (48 + n) ∷ []
 unfolding digits_by
-digits_by_lem zero zero n f h = rw (last_digit n)
-digits_by_lem zero (suc j) n f h = absurd (omega arith)
-digits_by_lem (suc more) zero n f h = rw (lt-ltb n 10 f.1, last_digit n)
-digits_by_lem (suc more) (suc j) n f h =
-    let w : 10 ^ suc j ≤ n = least_of n j f in
-    let g : IsDigitCount 10 1 (n / 10) (suc j) = fewest_before n j f in
-    rw (
-      le-ltb n 10 (omega (arith, w, pow-suc 10 j, one-le-pow j 10 (omega arith))),
-      last_digit n,
-      digits_by_lem more j
-          (n / 10) g (omega arith),
-    )
+one_digit zero n h = let e : n % 10 ≡ n = omega arith in rw e refl
+one_digit (suc more) n h = let e : n % 10 ≡ n = omega arith in rw (lt-ltb n 10 h, e) refl
 
--- eleven digits are past 4294967295
-at_most_ten : (n j : ℕ) → n < 4294967296 → IsDigitCount 10 1 n (suc (suc j)) → suc j ≤ 9
-at_most_ten n j h f = elim (dec_lt 9 (suc j)) [
-  | yes d ↦ absurd (omega (arith, least_of n j f, pow-le-pow_right {n = 10} (omega arith) {i = 10} {j = suc j} d))
-  | no d ↦ omega (arith, d)
-]
+more_digits : (k n : ℕ) → 10 ≤ n → digits_by k n ≡ last_digits k (n / 10) ++ ((48 + n % 10) ∷ [])
+unfolding digits_by last_digits
+more_digits zero n h = refl
+more_digits (suc k) n h = rw (le-ltb n 10 h) refl
 
-pub spelled : (n k : ℕ) → n < 4294967296 → IsDigitCount 10 1 n k → last_digits 10 k n ≡ number_text n
-unfolding number_text
-spelled n zero h f = absurd (omega (arith, f.0))
-spelled n (suc zero) h f = digits_by_lem 9 0 n f (omega arith)
-spelled n (suc (suc j)) h f = digits_by_lem 9 (suc j) n f (at_most_ten n j h f)
+by_last : AppendsLastDigit last_digits
+unfolding last_digits
+by_last = record { one = one_digit; more = more_digits }
+
+pub spelled : (n : ℕ) → n < 4294967296 → decimal n ≡ number_text n
+unfolding number_text last_digits
+spelled n h = sym (decimal_from_appends last_digits by_last 10 n (omega arith) (length-decimal-le 10 n (omega arith) (omega arith) (omega arith)))

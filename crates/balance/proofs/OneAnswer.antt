@@ -1,19 +1,25 @@
 -- What follows from the promise.
 --   balances_one    it binds: two replies that it allows for the same numbers are equal
+--   results_one     so are two results
 --   rounds_up       the least that covers a, b at a time
 --   balance_none    no tablets gives 0
 -- Assumes nothing.
-use mathlib.Core.Path.{◌≡◌, sym, ◌∙◌}
-use Prim.Native.Nat.{ℕ, ◌+◌, ◌-◌, ◌*◌, ◌/◌, ◌%◌, ◌≤◌, ◌<◌}
-use native.Mathlib.Nat.{div-add-mod', div-eq_of_lt, mod-lt}
+use mathlib.Core.Path.{◌≡◌, ap, sym, ◌∙◌}
+use Prim.Native.Nat.{ℕ, ◌+◌, ◌-◌, ◌*◌, ◌/◌, ◌≤◌, ◌<◌}
+use native.Mathlib.Nat.{div-eq_of_lt}
+use Rattle.std.proofs.lemmas.Grind.{div_ceil_times}
 use native.Mathlib.Omega.{arith}
-use Rattle.ring.proofs.Tests.{split}
-use Rattle.rule.specs.Refusals.{is_done}
+use Rattle.std.specs.Prelude.{Result, Ok, Err, IfErr}
+use mathlib.Core.Bool.{false}
+use Rattle.rule.specs.declared.Refusal.{Refusal}
+use Rattle.rule.specs.declared.Refusal.TheVariants.{Done}
+use Rattle.rule.specs.declared.Reply.{Reply}
+use Rattle.ring.proofs.Tests.{split, true_false}
+use Rattle.rule.specs.Refusals.{is_done, bare_reply}
 use Rattle.rule.specs.Balance.{balance_refusal, rounded_up, balanced_limit, balance}
 use Rattle.rule.specs.Balance as Rule
-use Rattle.balance.specs.declared.Balanced.{Balanced}
-use Rattle.balance.specs.Promise.{Balances}
-use Rattle.balance.proofs.Ranges.{parts_some, in_range}
+use Rattle.balance.specs.Promise.{Balanced, Balances, balanced_of}
+use Rattle.balance.proofs.Ranges.{parts_some, in_range, rounded}
 
 pub balances_one : {b : Rule.Balanced} {r s : Balanced} → Balances b r → Balances b s → r ≡ s
 balances_one {b} {r} {s} x y =
@@ -21,13 +27,19 @@ balances_one {b} {r} {s} x y =
     let l : r.limit ≡ s.limit = x.limit ∙ sym y.limit in
     λ i. record { reply = e i; limit = l i }
 
+not_refused : {why : Refusal} → bare_reply Done ≡ bare_reply why → is_done why ≡ false → ⊥
+unfolding is_done
+not_refused e f = true_false (ap (λ (r : Reply). is_done r.refusal) e ∙ f)
+
+pub results_one : {b : Rule.Balanced} (x y : Result ℕ Refusal) → Balances b (balanced_of x) → Balances b (balanced_of y)
+    → IfErr x (λ why. is_done why ≡ false) → IfErr y (λ why. is_done why ≡ false) → x ≡ y
+results_one (Ok x) (Ok y) p q f g = ap Ok (p.limit ∙ sym q.limit)
+results_one (Ok x) (Err y) p q f g = absurd (not_refused (p.reply ∙ sym q.reply) g)
+results_one (Err x) (Ok y) p q f g = absurd (not_refused (q.reply ∙ sym p.reply) f)
+results_one (Err x) (Err y) p q f g = ap (λ (r : Reply). Err r.refusal) (p.reply ∙ sym q.reply)
+
 pub rounds_up : (a b : ℕ) → 0 < b → (a ≤ rounded_up a b * b) × (rounded_up a b * b < a + b)
-unfolding rounded_up
-rounds_up a b h =
-    let x : ℕ = a + (b - 1) in
-    let whole : x / b * b + x % b ≡ x = div-add-mod' x b in
-    let rest : x % b < b = mod-lt x h in
-    (omega arith, omega arith)
+rounds_up a b h = rw (rounded a b h) (div_ceil_times a b h)
 
 pub balance_none : (p q relays : ℕ) → (balance p q 0 relays).limit ≡ 0
 unfolding balance balanced_limit rounded_up

@@ -1,12 +1,14 @@
 -- What a call promises (document 01, "How the statements must bind"): the full reply and every lent place afterwards, for accepted and refused
 -- calls alike. Assumes nothing.
-use Rattle.std.specs.Prelude.{List, ℕ, length}
+use Rattle.std.specs.Prelude.{false, List, ◌≡◌, ℕ, length, Result, Ok, Err}
 use Rattle.ring.specs.Scheme.{positions}
 use Rattle.rule.specs.declared.Call.{Call}
+use Rattle.rule.specs.declared.Refusal.{Refusal}
+use Rattle.rule.specs.Refusals.{is_done, bare_reply}
 use Rattle.rule.specs.declared.Move.{Move}
 use Rattle.rule.specs.declared.Reply.{Reply}
 use Rattle.rule.specs.Calls.{Outcome, outcome}
-use Rattle.promise.specs.Promise.{After, settled}
+use Rattle.promise.specs.Promise.{After, Answers, settled}
 use Rattle.meaning.specs.Meaning.{ring_of, lent_of}
 use Rattle.write.specs.Tables.{relay_table, tablet_table, listed}
 
@@ -40,3 +42,8 @@ left write rs ts ms o = settled o.reply.refusal o.reply (lists rs ts ms) (writte
 
 unfoldable pub after : ℕ → List ℕ → List ℕ → List ℕ → Call → After Reply (Lists ℕ)
 after scheme rs ts ms c = left listed rs ts ms (outcome_of scheme rs ts ms c)
+
+-- the steps of a call end so: with the reply that it promises, or with why it is refused
+abbrev pub Ends : {L : Type 0} → After Reply L → Result Reply Refusal → L → Type 0
+Ends a (Ok reply) lent = Answers a reply lent
+Ends a (Err why) lent = Answers a (bare_reply why) lent × (is_done why ≡ false)

@@ -1,35 +1,22 @@
 -- What every call starts from (document 01, "Replies", "The lent tables"): the first two refusals, and what the check of right tables has found.
 -- Assumes nothing.
-use Rattle.std.specs.Prelude.{Bool, true, false, List, ◌≡◌, ℕ}
+use Rattle.std.specs.Prelude.{true, List, ◌≡◌, ℕ}
 use Rattle.ring.specs.Scheme.{known, positions}
-use Rattle.rule.specs.declared.Refusal.{Refusal}
-use Rattle.rule.specs.declared.Refusal.TheVariants.{Done, TablesNotRight}
-use Rattle.rule.specs.Refusals.{is_done}
 use Rattle.tables.specs.Table.{RelaysIn, TabletsIn}
 use Rattle.tables.specs.Placement.{placed, right}
 use Rattle.tables.specs.Shape.{relays_used, tablets_used}
 use Rattle.survey.specs.declared.Survey.{Survey}
 use Rattle.survey.specs.Seats.{Surveyed}
-use Rattle.meaning.specs.Meaning.{tables_right, tables_refusal, Words}
-use Rattle.call_start.specs.declared.First.{First}
-use Rattle.call_start.specs.declared.Looked.{Looked}
-
--- the first refusal, and the second where the placement is not right
-unfoldable pub verdict : Refusal → Bool → Refusal
-verdict first fine = elim fine [ true ↦ first | false ↦ TablesNotRight ]
+use Rattle.meaning.specs.Meaning.{tables_right, Words}
 
 -- nothing is refused before the placement is looked at: the tables are right as they are placed
 pub record NotBarred (scheme : ℕ) (rs ts : List ℕ) (n m : ℕ) : Type 0 where
+  pub relays_fit : RelaysIn rs n
+  pub tablets_fit : TabletsIn ts m
   pub known : known scheme ≡ true
   pub relays : n ≡ relays_used rs
   pub tablets : m ≡ tablets_used ts
   pub test : placed (positions scheme) rs ts n m ≡ right (positions scheme) rs ts
-
-pub record FirstLook (scheme : ℕ) (rs ts : List ℕ) (f : First) : Type 0 where
-  pub relays_fit : RelaysIn rs f.n
-  pub tablets_fit : TabletsIn ts f.m
-  pub refused : is_done f.refusal ≡ false → (tables_refusal scheme rs ts ≡ f.refusal) × (f.m ≡ 0)
-  pub passed : is_done f.refusal ≡ true → (f.refusal ≡ Done) × NotBarred scheme rs ts f.n f.m
 
 -- the scheme is known and the tables are right: n relays and m tablets, and what was learnt of them
 pub record Start (scheme : ℕ) (rs ts : List ℕ) (n m : ℕ) (s : Survey) : Type 0 where
@@ -40,7 +27,3 @@ pub record Start (scheme : ℕ) (rs ts : List ℕ) (n m : ℕ) (s : Survey) : Ty
   pub surveyed : Surveyed (positions scheme) rs ts n m s
   pub relay_words : Words rs
   pub tablet_words : Words ts
-
-pub record Looks (scheme : ℕ) (rs ts : List ℕ) (l : Looked) : Type 0 where
-  pub refusal : l.refusal ≡ tables_refusal scheme rs ts
-  pub start : is_done l.refusal ≡ true → Start scheme rs ts l.n l.m l.survey

@@ -8,6 +8,8 @@ ghost use Rattle.promise.specs.Promise.{Answers};
 ghost use Rattle.call_start.specs.Promise.{lists};
 ghost use Rattle.calls.specs.Promise.{counted_after};
 
+// Each is written out: enrol, withdraw and find are lent tables to read alone, and find no move list, so no one function can make all six and count
+// them; and the slices stay apart as C lends them.
 pub fn add(
     scheme: u32,
     relays: &mut [u32],

@@ -1,6 +1,5 @@
 -- The arrays of a turn, one relay after the other.
 --   way_some                only a tablet that is there gives way
---   visited_yes, visited_no what a visit leaves, by whether somebody gave way
 --   greatest_last           the greatest tablet at a relay, from the places that the survey kept
 --   keeps_start, keeps_visited, keeps_end   the state of a turn: at its start, over one more relay, at its end
 -- Assumes nothing.
@@ -33,6 +32,7 @@ use Rattle.meaning.proofs.Placed.{Found}
 use Rattle.meaning.proofs.Right.{right_found}
 use Rattle.chain.specs.Chain.{name_at, from_at, link_at, chain_of}
 use Rattle.chain.specs.Visit.{gives_way, Visited}
+use Rattle.chain.specs.declared.Chain.{Chain}
 
 -- the state of a turn: c sat down, and the next walks
 pub record Turned (x : ℕ) (rs ts place seat : List ℕ) (n m c : ℕ) (s : Turn) : Type 0 where
@@ -50,32 +50,6 @@ way_some ts w l h =
     split (eqb l 0)
     (λ s. absurd (true_false (sym (rw s at h))))
     (λ s. let z : l ≡ 0 → ⊥ = eqb-false l 0 s in omega arith)
-
-module _ {b : Bool} {place seat place' seat' : List ℕ} {c i l : ℕ} where
-  pub visited_yes : b ≡ true → length place ≡ 256 → length seat ≡ 256 → seat' ≡ set seat c i
-      → place' ≡ set place (c + 1) (l - 1)
-      → Visited b place seat place' seat' c i l (c + 1)
-  visited_yes e lp ls es ep =
-      rw e (record {
-        count = refl;
-        seats = es;
-        places = ep;
-        seat_size = ap length es ∙ length-set seat c i ∙ ls;
-        place_size = ap length ep
-            ∙ length-set place (c + 1) (l - 1) ∙ lp;
-      })
-
-  pub visited_no : b ≡ false → length place ≡ 256 → length seat ≡ 256 → seat' ≡ seat → place' ≡ place
-      → Visited b place seat place' seat' c i l c
-  visited_no e lp ls es ep =
-      rw e (record {
-        count = refl;
-        seats = es;
-        places = ep;
-        seat_size = ap length es ∙ ls;
-        place_size = ap length ep
-            ∙ lp;
-      })
 
 -- ---- the greatest tablet at a relay
 
@@ -147,6 +121,11 @@ module _ {p : Positions} {rs ts : List ℕ} {n m : ℕ} (r : Rises p rs ts n m) 
       greatest_upto m (omega arith) i c ∙ ap (λ (l : List ℕ). number_before ts (get_or l i 0)) (sym e)
 
 -- ---- the state of a turn
+
+-- an array that is written or stays
+pub same_size : (b : Bool) (a : List ℕ) (i v : ℕ) {z : List ℕ} → z ≡ cond b (set a i v) a → length z ≡ length a
+same_size true a i v e = ap length e ∙ length-set a i v
+same_size false a i v e = ap length e
 
 module _ (x : ℕ) (rs ts : List ℕ) where
   name_ext : (place place' : List ℕ) (c : ℕ) → (0 < c → get_or place' c 0 ≡ get_or place c 0) → name_at x ts place' c
@@ -246,17 +225,21 @@ module _ (x : ℕ) (rs ts : List ℕ) where
         stored_seat i a =
             stored (λ y v. y < suc c → v < n) seat c (omega arith) (λ p. hr) i (λ d p. k.relays i (omega arith)) a
 
-    pub keeps_visited : c + 1 < 256 → (T : List Entry) (e : Entry) (l : ℕ) (place' seat' : List ℕ) (c' : ℕ) → l ≤ m
-        → e.number ≡ relay_number rs r → greatest T e.number ≡ number_before ts l
-        → (w : ℕ) → w ≡ s.walker → Visited (gives_way ts w l) place seat place' seat' c r l c'
-        → Turned x rs ts place' seat' n m c' (turn_at T s e)
-    keeps_visited hc' T e l place' seat' c' hm en eg w ew v =
-        let b : gives_way ts w l ≡ ltb s.walker (greatest T e.number) =
-        way_greatest ts w l ∙ ap (λ (z : ℕ). ltb z (number_before ts l)) ew ∙ ap (ltb s.walker) (sym eg) in
-        split (gives_way ts w l)
-        (λ y.
-        let some_one : 0 < l = way_some ts w l y in
-        let g : Turned x rs ts (set place (c + 1) (l - 1)) (set seat c r) n m (c + 1) (displaced_by T s e) =
-        gave_way hc' T e l some_one hm en (eg ∙ number_before_lem ts l some_one) in
-        rw (turn_at_yes T s e (sym b ∙ y), v.seats, v.places, v.count, y) g)
-        (λ y. rw (turn_at_no T s e (sym b ∙ y), v.seats, v.places, v.count, y) k)
+module _ (x : ℕ) (rs ts : List ℕ) (n m : ℕ) (a z : Chain) (s : Turn)
+    (k : Turned x rs ts a.place a.seat n m a.others s) where
+  pub keeps_visited : length a.place ≡ 256 → length a.seat ≡ 256 → a.others + 1 < 256 → (r : ℕ) → r < n
+      → (T : List Entry) (e : Entry) (l : ℕ) → l ≤ m → e.number ≡ relay_number rs r
+      → greatest T e.number ≡ number_before ts l
+      → (w : ℕ) → w ≡ s.walker → Visited (gives_way ts w l) a z r l
+      → Turned x rs ts z.place z.seat n m z.others (turn_at T s e)
+  keeps_visited lp ls hc r hr T e l hm en eg w ew v =
+      let b : gives_way ts w l ≡ ltb s.walker (greatest T e.number) =
+      way_greatest ts w l ∙ ap (λ (z : ℕ). ltb z (number_before ts l)) ew ∙ ap (ltb s.walker) (sym eg) in
+      split (gives_way ts w l)
+      (λ y.
+      let some_one : 0 < l = way_some ts w l y in
+      let g : Turned x rs ts (set a.place (a.others + 1) (l - 1)) (set a.seat a.others r) n m (a.others + 1) (displaced_by T s e) =
+      gave_way x rs ts a.place a.seat n m a.others s k lp ls (omega arith) r hr hc T e l some_one hm en
+      (eg ∙ number_before_lem ts l some_one) in
+      rw (turn_at_yes T s e (sym b ∙ y), v.seats, v.places, v.count, y) g)
+      (λ y. rw (turn_at_no T s e (sym b ∙ y), v.seats, v.places, v.count, y) k)

@@ -1,6 +1,6 @@
 -- The loop of a turn: at its start, over one more slot, at its end. Assumes nothing.
 use mathlib.Core.Bool.{Bool, true, false, cond}
-use mathlib.Core.Path.{◌≡◌, sym, ap, ◌∙◌, subst}
+use mathlib.Core.Path.{◌≡◌, sym, ap, ◌∙◌}
 use mathlib.Core.List.{List}
 use Prim.Native.Nat.{ℕ, ◌+◌, ◌≤◌, ◌<◌}
 use native.Mathlib.Omega.{arith}
@@ -11,30 +11,40 @@ use Rattle.ring.specs.Most.{most_relays}
 use Rattle.ring.specs.Scheme.{Positions}
 use Rattle.rule.specs.Entry.{entry}
 use Rattle.rule.specs.Walks.{greatest}
-use Rattle.rule.specs.Sweeps.{Turn, seats, turn_at, turn, newcomer}
+use Rattle.rule.specs.Sweeps.{seats, turn_at, turn, newcomer}
 use Rattle.rule.proofs.Turns.{turn_none, turn_last}
 use Rattle.tables.specs.Table.{relay_number, tablet_places}
 use Rattle.tables.proofs.Loops.{stored}
 use Rattle.order.specs.Keys.{slot_relay}
+use Rattle.survey.specs.declared.Survey.{Survey}
 use Rattle.meaning.specs.Meaning.{places, tablets_in}
 use Rattle.slots.specs.Slots.{slot_at, steps_to, round_number, round_limit, round}
 use Rattle.slots.proofs.Steps.{slot_on, slot_inside, steps_inside, slot_steps, steps_slot, slot_next}
-use Rattle.chain.specs.Chain.{name_at, chain_of, next_slot, From, Chained}
+use Rattle.chain.specs.Chain.{name_at, next_slot, From, Chained}
 use Rattle.chain.specs.Visit.{gives_way, Visited}
-use Rattle.chain.proofs.Arrays.{Turned, number_before, last_within, greatest_last, keeps_start, keeps_end, keeps_visited}
+use Rattle.chain.specs.declared.Chain.{Chain}
+use Rattle.chain.proofs.Arrays.{Turned, number_before, last_within, greatest_last, same_size, keeps_start, keeps_end, keeps_visited}
 
--- d steps on, at slot k, c sat down
-pub record Going (rs ts : List ℕ) (n m : ℕ) (keys : List ℕ) (h stop x : ℕ) (place seat : List ℕ)
-    (c d k : ℕ) : Type 0 where
-  pub short : d ≤ steps_to n h stop
-  pub at : k ≡ slot_at n h d
-  pub few : c ≤ d
-  pub place_size : length place ≡ most_relays
-  pub seat_size : length seat ≡ most_relays
-  pub keeps : Turned x rs ts place seat n m c (turn (tablets_in ts m) (newcomer x) (round rs keys n h d))
+-- at slot k, after the steps of the chain a
+pub record Going (rs ts : List ℕ) (v : Survey) (h stop x : ℕ) (a : Chain) (k : ℕ) : Type 0 where
+  pub short : a.steps ≤ steps_to v.n h stop
+  pub at : k ≡ slot_at v.n h a.steps
+  pub few : a.others ≤ a.steps
+  pub place_size : length a.place ≡ most_relays
+  pub seat_size : length a.seat ≡ most_relays
+  pub keeps : Turned x rs ts a.place a.seat v.n v.m a.others
+      (turn (tablets_in ts v.m) (newcomer x) (round rs v.keys v.n h a.steps))
 
-module _ {p : Positions} {rs ts : List ℕ} {n m : ℕ} {keys last : List ℕ} {h stop : ℕ}
-    (f : From p rs ts n m keys last h stop) where
+module _ {p : Positions} {rs ts : List ℕ} {v : Survey} {h stop : ℕ} (f : From p rs ts v h stop) where
+  abbrev n : ℕ
+  n = v.n
+
+  abbrev m : ℕ
+  m = v.m
+
+  abbrev keys : List ℕ
+  keys = v.keys
+
   in_ring : h ≤ n
   in_ring = omega (arith, f.home)
 
@@ -44,23 +54,25 @@ module _ {p : Positions} {rs ts : List ℕ} {n m : ℕ} {keys last : List ℕ} {
   pub steps_few : steps_to n h stop < n
   steps_few = steps_inside n h in_ring stop f.inside
 
-  pub going_start : {x : ℕ} (place seat : List ℕ) → length place ≡ most_relays → length seat ≡ most_relays
-      → Going rs ts n m keys h stop x place seat 0 0 h
-  going_start {x} place seat lp ls =
+  pub going_start : {x : ℕ} (a : Chain) → a.others ≡ 0 → a.steps ≡ 0 → length a.place ≡ most_relays
+      → length a.seat ≡ most_relays → Going rs ts v h stop x a h
+  going_start {x} a nobody nowhere lp ls =
       record {
         short = omega arith;
-        at = omega (arith, slot_on n h in_ring 0 (omega (arith, f.home)));
+        at = rw nowhere (omega (arith, slot_on n h in_ring 0 (omega (arith, f.home))));
         few = omega arith;
         place_size = lp;
         seat_size = ls;
-        keeps = subst (λ (s : Turn). Turned x rs ts place seat n m 0 s) (sym none_yet)
-            (keeps_start x rs ts place seat n m);
+        keeps = rw (nobody, nowhere, none_yet) (keeps_start x rs ts a.place a.seat n m);
       }
     where
       none_yet : turn (tablets_in ts m) (newcomer x) (round rs keys n h 0) ≡ newcomer x
       none_yet = unfold places in (turn_none (tablets_in ts m) (newcomer x))
 
-  module _ {x : ℕ} {place seat : List ℕ} {c d k : ℕ} (g : Going rs ts n m keys h stop x place seat c d k) where
+  module _ {x : ℕ} {a : Chain} {k : ℕ} (g : Going rs ts v h stop x a k) where
+    abbrev d : ℕ
+    d = a.steps
+
     pub slot_small : k < n
     slot_small = omega (arith, g.at, slot_inside n h in_ring d (omega (arith, g.short, steps_few)))
 
@@ -75,40 +87,40 @@ module _ {p : Positions} {rs ts : List ℕ} {n m : ℕ} {keys last : List ℕ} {
         (g.at ∙ ap (slot_at n h) e ∙ slot_steps n h in_ring stop f.inside) in
         omega (arith, g.short)
 
-    pub room_for_one : (k ≡ stop → ⊥) → c + 1 < most_relays
-    room_for_one ne = omega (arith, more_steps ne, steps_few, few_relays_lem, g.few)
+    pub room_for_one : (k ≡ stop → ⊥) → (a.others + 1 < most_relays) × (d < most_relays)
+    room_for_one ne =
+        let b = more_steps ne in
+        (omega (arith, b, steps_few, few_relays_lem, g.few), omega (arith, b, steps_few, few_relays_lem))
 
     relay_small : slot_relay keys k < n
     relay_small = f.ordered.holds.relay k slot_small
 
-    pub last_small : (i : ℕ) → i ≡ slot_relay keys k → get_or last i 0 ≤ m
+    pub last_small : (i : ℕ) → i ≡ slot_relay keys k → get_or v.last i 0 ≤ m
     last_small i e = rw (e, f.greatest) (last_within f.rises m (omega arith) (slot_relay keys k) relay_small)
 
-    pub place_there : 0 < c → get_or place c 0 < tablet_places ts
-    place_there z = omega (arith, g.keeps.places c z (omega arith), f.rises.tablets_fit.there)
+    pub place_there : 0 < a.others → get_or a.place a.others 0 < tablet_places ts
+    place_there z = omega (arith, g.keeps.places a.others z (omega arith), f.rises.tablets_fit.there)
 
-    pub going_more : (k ≡ stop → ⊥) → (i w l : ℕ) → i ≡ slot_relay keys k → w ≡ name_at x ts place c → l ≡ get_or last i 0
-        → (place' seat' : List ℕ) (c' k' : ℕ) → Visited (gives_way ts w l) place seat place' seat' c i l c'
-        → k' ≡ next_slot n k
-        → Going rs ts n m keys h stop x place' seat' c' (d + 1) k'
+    pub going_more : (k ≡ stop → ⊥) → (i w l : ℕ) → i ≡ slot_relay keys k → w ≡ name_at x ts a.place a.others
+        → l ≡ get_or v.last i 0 → (z : Chain) (k' : ℕ) → Visited (gives_way ts w l) a z i l → k' ≡ next_slot n k
+        → Going rs ts v h stop x z k'
     unfolding next_slot
-    going_more ne i w l ei ew el place' seat' c' k' v ek =
+    going_more ne i w l ei ew el z k' o ek =
         record {
-          short = omega (arith, more_steps ne);
+          short = omega (arith, more_steps ne, o.passed);
           at = ek ∙ sym (slot_next n h in_ring d (omega (arith, more_steps ne, steps_few))
-              ∙ ap (λ (z : ℕ). cond (eqb (z + 1) n) 0 (z + 1)) (sym g.at));
-          few = count_few (gives_way ts w l) v.count;
-          place_size = v.place_size;
-          seat_size = v.seat_size;
-          keeps = subst (λ (s : Turn). Turned x rs ts place' seat' n m c' s) (sym one_more)
-              (keeps_visited x rs ts place seat n m c (turn (tablets_in ts m) (newcomer x) (round rs keys n h d))
-              g.keeps g.place_size
-              g.seat_size (omega (arith, room_for_one ne)) i (rw ei relay_small) (room_for_one ne)
-              (tablets_in ts m) (entry (round_number rs keys n h d) (round_limit rs keys n h d)) l place' seat' c'
+              ∙ ap (λ (z : ℕ). cond (eqb (z + 1) n) 0 (z + 1)) (sym g.at)) ∙ ap (slot_at n h) (sym o.passed);
+          few = count_few (gives_way ts w l) o.count;
+          place_size = same_size (gives_way ts w l) _ _ _ o.places ∙ g.place_size;
+          seat_size = same_size (gives_way ts w l) _ _ _ o.seats ∙ g.seat_size;
+          keeps = rw (o.passed, one_more)
+              (keeps_visited x rs ts n m a z (turn (tablets_in ts m) (newcomer x) (round rs keys n h d)) g.keeps
+              g.place_size g.seat_size (room_for_one ne).0 i (rw ei relay_small)
+              (tablets_in ts m) (entry (round_number rs keys n h d) (round_limit rs keys n h d)) l
               (rw el (last_small i ei)) number
-              (ap (greatest (tablets_in ts m)) number ∙ greatest_last f.rises i (rw ei relay_small) last f.greatest
+              (ap (greatest (tablets_in ts m)) number ∙ greatest_last f.rises i (rw ei relay_small) v.last f.greatest
               ∙ ap (λ (z : ℕ). number_before ts z) (sym el))
-              w (ew ∙ sym g.keeps.walker) v);
+              w (ew ∙ sym g.keeps.walker) o);
         }
       where
         number : round_number rs keys n h d ≡ relay_number rs i
@@ -124,28 +136,27 @@ module _ {p : Positions} {rs ts : List ℕ} {n m : ℕ} {keys last : List ℕ} {
             ∙ unfold places in (turn_last (tablets_in ts m) (newcomer x) (round rs keys n h d)
             (entry (round_number rs keys n h d) (round_limit rs keys n h d)))
 
-        count_few : (b : Bool) → c' ≡ cond b (c + 1) c → c' ≤ d + 1
-        count_few true e = omega (arith, g.few)
-        count_few false e = omega (arith, g.few)
+        count_few : (b : Bool) → z.others ≡ cond b (a.others + 1) a.others → z.others ≤ z.steps
+        count_few true e = omega (arith, g.few, o.passed)
+        count_few false e = omega (arith, g.few, o.passed)
 
-    pub going_end : k ≡ stop → (i : ℕ) → i ≡ slot_relay keys stop → (seat' : List ℕ) → seat' ≡ set seat c i
-        → Chained rs ts n m keys h stop x c d place seat'
-    going_end e i ei seat' es =
+    pub going_end : k ≡ stop → (i : ℕ) → i ≡ slot_relay keys stop
+        → Chained rs ts v h stop x (record a { seat = set a.seat a.others i })
+    going_end e i ei =
         record {
           steps = all_steps e;
           few = g.few;
           is = ap (λ (z : ℕ). seats (turn (tablets_in ts m) (newcomer x) (round rs keys n h d)) (relay_number rs z))
               (sym ei)
-              ∙ keeps_end x rs ts place seat n m c (turn (tablets_in ts m) (newcomer x) (round rs keys n h d)) g.keeps
-              g.place_size
-              g.seat_size (omega (arith, g.few, g.short, steps_few, few_relays_lem)) i stop_small
-              ∙ ap (λ (z : List ℕ). chain_of x rs ts place z (c + 1)) (sym es);
+              ∙ keeps_end x rs ts a.place a.seat n m a.others (turn (tablets_in ts m) (newcomer x) (round rs keys n h d))
+              g.keeps g.place_size g.seat_size c_few i stop_small;
           places = g.keeps.places;
-          relays = λ j a. rw es
-              (stored (λ y v. y ≤ c → v < n) seat c
-              (omega (arith, g.seat_size, g.few, g.short, steps_few, few_relays_lem))
-              (λ q. stop_small) j (λ ne q. g.keeps.relays j (omega arith)) a);
+          relays = λ j b. stored (λ y v. y ≤ a.others → v < n) a.seat a.others (omega (arith, g.seat_size, c_few))
+              (λ q. stop_small) j (λ ne q. g.keeps.relays j (omega arith)) b;
         }
       where
         stop_small : i < n
         stop_small = rw ei (f.ordered.holds.relay stop f.inside)
+
+        c_few : a.others < most_relays
+        c_few = omega (arith, g.few, g.short, steps_few, few_relays_lem)

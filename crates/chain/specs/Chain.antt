@@ -8,10 +8,12 @@ use Rattle.rule.specs.Sweeps.{seats, turn, newcomer}
 use Rattle.tables.specs.Table.{relay_number, tablet_number}
 use Rattle.tables.specs.Placement.{relay_positions}
 use Rattle.order.specs.Keys.{slot_relay, Ordered}
+use Rattle.survey.specs.declared.Survey.{Survey}
 use Rattle.survey.specs.Seats.{last_after}
 use Rattle.meaning.specs.Meaning.{tablets_in}
 use Rattle.meaning.specs.Rising.{Rises}
 use Rattle.slots.specs.Slots.{steps_to, round}
+use Rattle.chain.specs.declared.Chain.{Chain}
 
 -- the number of the c-th who sits down
 unfoldable pub name_at : ℕ → List ℕ → List ℕ → ℕ → ℕ
@@ -37,18 +39,18 @@ unfoldable pub next_slot : ℕ → ℕ → ℕ
 next_slot n k = cond (eqb (k + 1) n) 0 (k + 1)
 
 -- what a turn is made from: right tables as a survey found them, the slot of the newcomer's home, and the first slot with room from there
-pub record From (p : Positions) (rs ts : List ℕ) (n m : ℕ) (keys last : List ℕ) (h stop : ℕ) : Type 0 where
-  pub rises : Rises p rs ts n m
-  pub ordered : Ordered (relay_positions p rs n) n keys
-  pub greatest : last ≡ last_after p rs ts n m
-  pub home : h < n
-  pub inside : stop < n
+pub record From (p : Positions) (rs ts : List ℕ) (v : Survey) (h stop : ℕ) : Type 0 where
+  pub rises : Rises p rs ts v.n v.m
+  pub ordered : Ordered (relay_positions p rs v.n) v.n v.keys
+  pub greatest : v.last ≡ last_after p rs ts v.n v.m
+  pub home : h < v.n
+  pub inside : stop < v.n
 
--- the newcomer first, then all who gave way: c of them sat down after the steps to the first slot with room
-pub record Chained (rs ts : List ℕ) (n m : ℕ) (keys : List ℕ) (h stop x c d : ℕ) (place seat : List ℕ) : Type 0 where
-  pub steps : d ≡ steps_to n h stop
-  pub few : c ≤ d
-  pub is : seats (turn (tablets_in ts m) (newcomer x) (round rs keys n h d)) (relay_number rs (slot_relay keys stop))
-      ≡ chain_of x rs ts place seat (c + 1)
-  pub places : (i : ℕ) → 0 < i → i ≤ c → get_or place i 0 < m
-  pub relays : (i : ℕ) → i ≤ c → get_or seat i 0 < n
+-- the newcomer first, then all who gave way, after the steps to the first slot with room
+pub record Chained (rs ts : List ℕ) (v : Survey) (h stop x : ℕ) (z : Chain) : Type 0 where
+  pub steps : z.steps ≡ steps_to v.n h stop
+  pub few : z.others ≤ z.steps
+  pub is : seats (turn (tablets_in ts v.m) (newcomer x) (round rs v.keys v.n h z.steps))
+      (relay_number rs (slot_relay v.keys stop)) ≡ chain_of x rs ts z.place z.seat (z.others + 1)
+  pub places : (i : ℕ) → 0 < i → i ≤ z.others → get_or z.place i 0 < v.m
+  pub relays : (i : ℕ) → i ≤ z.others → get_or z.seat i 0 < v.n

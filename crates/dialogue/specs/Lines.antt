@@ -1,11 +1,10 @@
 -- What `watch` does for a line (document 01, "A drill to prove"; docs/DECISIONS.md, reading 9): a call is made and answered, and any other line
 -- leaves all that is lent. Assumes nothing.
-use Rattle.std.specs.Prelude.{List, [], ◌≡◌, ℕ}
+use Rattle.std.specs.Prelude.{List, [], Option, Some, None, ◌≡◌, ℕ}
+use Rattle.rule.specs.declared.Call.{Call}
 use Rattle.rule.specs.declared.Reply.{Reply}
 use Rattle.promise.specs.Promise.{After}
 use Rattle.call_start.specs.Promise.{Lists, lists, after}
-use Rattle.line.specs.declared.Line as lines
-use Rattle.line.specs.declared.Line.TheVariants as line
 use Rattle.line.specs.Line.{meaning_of, scheme_of}
 use Rattle.answer.specs.Text.{answer_text}
 use Rattle.stage.specs.declared.Stage.{Stage}
@@ -25,9 +24,9 @@ unfoldable pub called : ℕ → After Reply (Lists ℕ) → Left
 called s a = record { reply = says (Under s) (answer_text a.reply a.lent.moves); lent = a.lent }
 
 -- a line behind the first, and what it means
-unfoldable pub under : ℕ → List ℕ → List ℕ → List ℕ → lines.Line → Left
-under s rs ts ms (line.Call c) = called s (after s rs ts ms c)
-under s rs ts ms line.Other = unchanged rs ts ms (other (Under s))
+unfoldable pub under : ℕ → List ℕ → List ℕ → List ℕ → Option Call → Left
+under s rs ts ms (Some c) = called s (after s rs ts ms c)
+under s rs ts ms None = unchanged rs ts ms (other (Under s))
 
 -- any line; nothing is said once the run is over
 unfoldable pub answered : Stage → List ℕ → List ℕ → List ℕ → List ℕ → Left

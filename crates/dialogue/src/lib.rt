@@ -6,6 +6,7 @@ ghost use Rattle.line.specs.Line.{meaning_of};
 ghost use Rattle.call_start.specs.Promise.{lists};
 ghost use Rattle.dialogue.specs.Lines.{Shows, under, answered};
 
+// The lent slices go apart, as the calls take them: the C interface lends them so.
 fn next_line(
     relays: &mut [u32],
     tablets: &mut [u32],
@@ -19,18 +20,18 @@ fn next_line(
         result (lists relays.new tablets.new moves.new) answer.new }
 {
     match line::meaning(line) {
-        line::Line::Call(c) => {
+        Some(call) => {
             // Nobody asks for the counts.
             let mut tally = [0u32; 4];
-            let reply = calls::call(scheme, relays, tablets, moves, &mut tally, c);
+            let reply = calls::call(scheme, relays, tablets, moves, &mut tally, call);
             let due = answer::answer(answer, reply, moves);
             stage::Standing {
                 stage: stage::Stage::Under(scheme),
                 kept: 0,
-                due: due,
+                due,
             }
         }
-        line::Line::Other => stage::other_line(answer, stage::Stage::Under(scheme)),
+        None => stage::other_line(answer, stage::Stage::Under(scheme)),
     }
 }
 

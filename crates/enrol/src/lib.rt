@@ -7,7 +7,7 @@ ghost use Rattle.rule.specs.declared.Call.TheVariants.{Enrol};
 ghost use Rattle.tables.specs.Table.{relay_places, tablet_places, tablet_number};
 ghost use Rattle.write.specs.Wrote.{Climbs};
 ghost use Rattle.promise.specs.Promise.{Answers};
-ghost use Rattle.call_start.specs.Promise.{lists, after};
+ghost use Rattle.call_start.specs.Promise.{lists, after, Ends};
 ghost use Rattle.newcomer.specs.Newcomer.{Seatable};
 ghost use Rattle.enrol.specs.Enrol.{OneSeated, OthersSeated};
 
@@ -33,7 +33,7 @@ fn seat_one(
     let from = tables::relay_number(relays, old);
     let to = tables::relay_number(relays, new);
     place::list_move(moves, c, t, from, to);
-    write::seat_tablet(tablets, m, j, to);
+    write::change(tablets, m, j, to.0);
 }
 
 // All who gave way sit down.
@@ -42,26 +42,44 @@ fn seat_others(
     tablets: &mut [u32],
     moves: &mut [u32],
     m: usize,
-    place: &[u16; ring::MOST_RELAYS],
-    seat: &[u8; ring::MOST_RELAYS],
-    others: usize,
+    chain: &chain::Chain,
 )
-    requires { Seatable relays.now tablets.old moves.old place.now seat.now m others }
-    ensures { (x : ℕ) → OthersSeated x relays.now tablets.old moves.old
-        place.now
-        seat.now tablets.new moves.new m others }
+    requires { Seatable relays.now tablets.old moves.old m chain.now }
+    ensures { (x : ℕ) → OthersSeated x relays.now tablets.old moves.old chain.now tablets.new moves.new m
+        chain.now.others }
 {
-    let mut c: usize = 0;
-    while c < others {
-        let j = ring::from_u16(place[c + 1]);
-        let old = ring::from_u8(seat[c]);
-        let new = ring::from_u8(seat[c + 1]);
+    for c in 0..chain.others {
+        let j = usize::from(chain.place[c + 1]);
+        let old = usize::from(chain.seat[c]);
+        let new = usize::from(chain.seat[c + 1]);
         seat_one(relays, tablets, moves, m, c, j, old, new);
-        c += 1;
     }
 }
 
 // ---- the call
+
+// What the call replies once all is written; or why it is refused, and nothing is.
+fn enrolled(
+    scheme: u32,
+    relays: &[u32],
+    tablets: &mut [u32],
+    moves: &mut [u32],
+    t: ring::TabletNumber,
+) -> Result<rule::Reply, rule::Refusal>
+    ensures { Ends (after scheme relays.now tablets.old moves.old (Enrol t)) result
+        (lists relays.now tablets.new moves.new) }
+{
+    let e = newcomer::prepare(scheme, relays, tablets, moves.len() / 3, t)?;
+    let relay = tables::relay_number(relays, usize::from(e.chain.seat[0]));
+    seat_others(relays, tablets, moves, e.m, &e.chain);
+    write::insert(tablets, e.m, e.at, t.0, relay.0);
+    Ok(rule::Reply {
+        refusal: rule::Refusal::Done,
+        relay,
+        passed: e.chain.steps as u32,
+        moves: e.chain.others as u32,
+    })
+}
 
 pub fn enrol(
     scheme: u32,
@@ -74,22 +92,5 @@ pub fn enrol(
         (Enrol t))
         result (lists relays.now tablets.new moves.new) }
 {
-    let p = newcomer::prepare(scheme, relays, tablets, moves.len() / 3, t);
-    let refusal = p.refusal;
-    let done = rule::done(refusal);
-    if !done {
-        return rule::bare_reply(refusal);
-    }
-    let c = p.chain;
-    let place = c.place;
-    let seat = c.seat;
-    let relay = tables::relay_number(relays, ring::from_u8(seat[0]));
-    seat_others(relays, tablets, moves, p.m, &place, &seat, c.others);
-    write::insert_tablet(tablets, p.m, p.at, t, relay);
-    rule::Reply {
-        refusal: rule::Refusal::Done,
-        relay: relay,
-        passed: c.steps as u32,
-        moves: c.others as u32,
-    }
+    enrolled(scheme, relays, tablets, moves, t).unwrap_or_else(rule::bare_reply)
 }

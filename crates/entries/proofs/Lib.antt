@@ -1,3 +1,2 @@
-pub mod Edge
-pub mod Found
-pub mod Shaped
+pub mod Parted
+pub mod Tested

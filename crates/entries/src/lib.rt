@@ -4,105 +4,45 @@
 
 mod shape;
 
-ghost use Rattle.std.specs.Prelude.{◌≡◌, false};
-ghost use Rattle.tables.specs.Table.{relay_places, relay_number, tablet_places, tablet_number};
-ghost use Rattle.entries.specs.Entries.{Edge, RelayEntries, TabletEntries, ShapesOf};
+ghost use Rattle.std.specs.Prelude.{◌≡◌, ℕ, MatchOption};
+ghost use Rattle.tables.specs.Table.{number_in, places_of};
+ghost use Rattle.tables.specs.Shape.{table_shape};
+ghost use Rattle.entries.specs.Entries.{Ends, NotAsItMust, Counted, ShapesOf};
 
-use shape::{relay_shape, tablet_shape};
+use shape::has_shape;
 
-fn relay_edge(relays: &[u32]) -> usize
-    ensures { Edge (relay_number relays.now) (relay_places relays.now) result result }
+// Where the numbers of a table end, if they come first.
+fn edge(table: &[u32]) -> usize
+    ensures { (n : ℕ) → Ends (number_in table.now) (places_of table.now) n → result ≡ n }
 {
-    let mut low: usize = 0;
-    let mut high = tables::relay_places(relays);
-    while low < high {
-        let middle = low + (high - low) / 2;
-        if 0 < tables::relay_number(relays, middle).0 {
-            low = middle + 1;
-        } else {
-            high = middle;
-        }
-    }
-    low
+    let (places, _) = table.as_chunks::<2>();
+    places.partition_point(|place| 0 < place[0])
 }
 
-fn tablet_edge(tablets: &[u32]) -> usize
-    ensures { Edge (tablet_number tablets.now) (tablet_places tablets.now) result result }
+// How many entries a table has, if it is as it must be: of so many places at most, and with so much at most beside a number.
+fn entries(table: &[u32], most: usize, top: u32) -> Option<usize>
+    ensures { MatchOption result (NotAsItMust most top table.now) (λ n. Counted most top table.now n) }
 {
-    let mut low: usize = 0;
-    let mut high = tables::tablet_places(tablets);
-    while low < high {
-        let middle = low + (high - low) / 2;
-        if 0 < tables::tablet_number(tablets, middle).0 {
-            low = middle + 1;
-        } else {
-            high = middle;
-        }
-    }
-    low
-}
-
-// Is a table as it must be, and how many entries has it then?
-#[derive(Clone, Copy)]
-pub struct Entries {
-    pub right: bool,
-    pub count: usize,
-}
-
-pub fn relay_entries(relays: &[u32]) -> Entries
-    ensures { RelayEntries relays.now result.right result.count }
-{
-    let n = relay_edge(relays);
-    let right = relay_shape(relays, n);
-    Entries {
-        right: right,
-        count: n,
+    let n = edge(table);
+    if has_shape(table, most, top, n) {
+        Some(n)
+    } else {
+        None
     }
 }
 
-pub fn tablet_entries(tablets: &[u32]) -> Entries
-    ensures { TabletEntries tablets.now result.right result.count }
-{
-    let m = tablet_edge(tablets);
-    let right = tablet_shape(tablets, m);
-    Entries {
-        right: right,
-        count: m,
-    }
-}
-
-// Are both tables as they must be, and how many relays and tablets have they? None where one of them is not.
+// How many relays and tablets there are.
 #[derive(Clone, Copy)]
 pub struct Counts {
-    pub right: bool,
     pub n: usize,
     pub m: usize,
 }
 
-pub fn shapes(relays: &[u32], tablets: &[u32]) -> Counts
-    ensures { ShapesOf relays.now tablets.now result.right result.n result.m }
+// How many there are in two tables, if both are as they must be.
+pub fn shapes(relays: &[u32], tablets: &[u32]) -> Option<Counts>
+    ensures { ShapesOf relays.now tablets.now result }
 {
-    let r = relay_entries(relays);
-    if !r.right {
-        return no_shapes();
-    }
-    let t = tablet_entries(tablets);
-    if !t.right {
-        return no_shapes();
-    }
-    Counts {
-        right: true,
-        n: r.count,
-        m: t.count,
-    }
-}
-
-fn no_shapes() -> Counts
-    ensures { (result.right ≡ false) × (result.n ≡ 0) × (result.m ≡ 0) }
-{
-    Counts {
-        right: false,
-        n: 0,
-        m: 0,
-    }
+    let n = entries(relays, ring::MOST_RELAYS, ring::MOST_LIMIT)?;
+    let m = entries(tablets, ring::MOST_TABLETS, ring::TOP_NUMBER)?;
+    Some(Counts { n, m })
 }

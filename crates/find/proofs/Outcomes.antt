@@ -1,11 +1,9 @@
 -- What a find promises of a tablet that is there (`find_found`).
 -- Assumes nothing.
-use mathlib.Core.Bool.{Bool, true, false, not}
 use mathlib.Core.Path.{◌≡◌, sym, ap, ◌∙◌}
 use mathlib.Core.List.{List, []}
 use Prim.Native.Nat.{ℕ}
 use native.Mathlib.Omega.{arith}
-use borrow.Author.Tests.{not-false}
 use Rattle.ring.specs.Scheme.{positions}
 use Rattle.ring.specs.declared.TabletNumber.{TabletNumber}
 use Rattle.rule.specs.declared.Move.{Move}
@@ -27,11 +25,10 @@ use Rattle.call_start.specs.Start.{Start}
 use Rattle.call_start.proofs.Refusals.{start_rises, start_ring, all_passed, accepted_answers}
 use Rattle.call_start.proofs.Stays.{relays_stay, tablets_stay}
 use Rattle.seat.specs.declared.Seat.{Seat}
-use Rattle.seat.specs.Seat.{SeatOf}
+use Rattle.seat.specs.Seat.{Found, seat_refusal}
 use Rattle.seat.proofs.Replies.{missing_find, found_relay, found_passed}
 
-module _ {s : ℕ} {rs ts : List ℕ} {n m : ℕ} {v : Survey} (b : Start s rs ts n m v) (t : TabletNumber) {seat : Seat}
-    (f : SeatOf ts n m v.home v.slot t.0 seat) {done : Bool} (ed : done ≡ is_done seat.refusal) where
+module _ {s : ℕ} {rs ts : List ℕ} {v : Survey} (b : Start s rs ts v.n v.m v) (t : TabletNumber) where
   abbrev ring : Ring
   ring = ring_of rs ts
 
@@ -41,14 +38,11 @@ module _ {s : ℕ} {rs ts : List ℕ} {n m : ℕ} {v : Survey} (b : Start s rs t
   no_moves : moves (positions s) (ring_of rs ts) (Find t) ≡ []
   no_moves = find_moves (positions s) ring right t
 
-  module _ (h : not done ≡ false) (ms : List ℕ) where
-    fine : is_done seat.refusal ≡ true
-    fine = sym ed ∙ not-false done h
-
+  module _ {seat : Seat} (d : seat_refusal ts v t.0 ≡ Done) (f : Found ts v t.0 seat) (ms : List ℕ) where
     accepts : refusal (positions s) (lent_of s rs ts ms) (ring_of rs ts) (Find t) ≡ Done
-    unfolding edited
+    unfolding edited is_done
     accepts =
-        all_passed s rs ts ms (Find t) b (ap is_done (missing_find b t (lent_of s rs ts ms) ∙ sym f.refusal) ∙ fine)
+        all_passed s rs ts ms (Find t) b (ap is_done (missing_find b t (lent_of s rs ts ms) ∙ d))
         right.enough
         (rw no_moves (omega arith))
 
@@ -57,9 +51,8 @@ module _ {s : ℕ} {rs ts : List ℕ} {n m : ℕ} {v : Survey} (b : Start s rs t
     find_found =
         accepted_answers s rs ts ms (Find t) accepts _ rs ts ms
         (unfold accepted relay_of passed in (rw (
-          found_relay b t (f.found fine),
-          found_passed b t
-              (f.found fine),
+          found_relay b t f,
+          found_passed b t f,
           no_moves,
         )))
         (relays_stay b (Calls.after (positions s) ring (Find t))

@@ -15,8 +15,8 @@ use Rattle.ring.proofs.Tests.{and_left}
 use Rattle.rule.specs.Entry.{Entry}
 use Rattle.rule.specs.Rule.{Ring}
 use Rattle.rule.specs.Facts.{Table}
-use Rattle.tables.specs.Table.{relay_places, relay_number, relay_limit, relay_whole, tablet_places, tablet_number, tablet_relay, tablet_whole}
-use Rattle.tables.specs.Shape.{used, relays_used, tablets_used, relay_fits, tablet_fits}
+use Rattle.tables.specs.Table.{relay_places, is_whole, tablet_places, beside_in, number_in, places_of}
+use Rattle.tables.specs.Shape.{used, relay_fits, tablet_fits, fits_in, used_in}
 use Rattle.meaning.specs.Meaning.{places, rest_unused, ring_of, fit_tables}
 use Rattle.meaning.specs.Ascending.{Ascending}
 use Rattle.meaning.proofs.Places.{places_ext, places_table}
@@ -130,20 +130,19 @@ module _ (rs ts : List ℕ) (g : Ring) (relays_fit_lem : relay_fits rs ≡ true)
   ts' = tablet_table (length ts) g
 
   relays_again : Again rs' g.relays (length rs)
-  unfolding relay_table relay_fits relay_whole relay_places
+  unfolding relay_table fits_in is_whole places_of
   relays_again = table_again g.relays (length rs) relays_room (even rs most_relays relays_fit_lem) relays
 
   tablets_again : Again ts' g.tablets (length ts)
-  unfolding tablet_table tablet_fits tablet_whole tablet_places
+  unfolding tablet_table fits_in is_whole places_of
   tablets_again = table_again g.tablets (length ts) tablets_room (even ts most_tablets tablets_fit_lem) tablets
 
   pub ring_again : ring_of rs' ts' ≡ g
-  unfolding ring_of relays_used relay_places relay_number relay_limit tablets_used tablet_places tablet_number tablet_relay
+  unfolding ring_of used_in places_of number_in beside_in
   ring_again = λ i. record { relays = relays_again.entries i; tablets = tablets_again.entries i }
 
   pub fit_again : fit_tables rs' ts' ≡ true
-  unfolding fit_tables relay_fits relay_whole relays_used relay_places relay_number relay_limit tablet_fits tablet_whole
-      tablets_used tablet_places tablet_number tablet_relay
+  unfolding fit_tables fits_in is_whole used_in places_of number_in beside_in
   fit_again =
       rw (
         fits_again rs rs' most_relays relays_again.size relays_fit_lem,

@@ -40,9 +40,9 @@ pub drill_lent_lem : (drop 3 (answered Drilled.blank Drilled.drill_steps) ≡ ma
     × ((called_all Drilled.blank Drilled.drill_steps).tally ≡ Drilled.drill_tally)
 unfolding answered standing called called_all Drilled.blank Drilled.drill_calls Drilled.drill_steps Drilled.drill_tally
     Promise.after Promise.left Promise.written Promised.settled Promise.outcome_of Meaning.lent_of Meaning.ring_of
-    Meaning.places Meaning.fit_tables Meaning.rest_unused Shape.relays_used Shape.tablets_used Shape.used Shape.relay_fits
-    Shape.tablet_fits Shape.all Shape.unused Table.relay_places Table.relay_number Table.relay_limit Table.relay_whole
-    Table.tablet_places Table.tablet_number Table.tablet_relay Table.tablet_whole Tables.flat Tables.filled
+    Meaning.places Meaning.fit_tables Meaning.rest_unused Shape.used_in Shape.used Shape.fits_in
+    Shape.all Shape.unused Table.places_of Table.number_in Table.beside_in Table.is_whole
+    Tables.flat Tables.filled
     Tables.relay_table Tables.tablet_table Tables.flat_moves Tables.listed Counted.tally_of Counted.counts Counted.tallied
     Tally.more Tally.counted Scheme.known Scheme.positions Scheme.position Clockwise.clockwise Clockwise.distance
     Clockwise.sooner Entry.numbers Entry.has Entry.beside_of Entry.insert Entry.delete Entry.put Entry.total Entry.count

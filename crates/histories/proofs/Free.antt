@@ -15,13 +15,13 @@ use Rattle.rule.specs.Sets.{SameSets}
 use Rattle.rule.proofs.History.{same_tables}
 use Rattle.rule.proofs.Tallies.{tally_loads}
 use Rattle.tables.specs.Table.{relay_places, relay_number, relay_limit, tablet_places, tablet_number, tablet_relay}
-use Rattle.tables.specs.Shape.{relays_used, tablets_used}
+use Rattle.tables.specs.Shape.{relays_used, tablets_used, used_in}
 use Rattle.tables.proofs.Shaped.{used_most}
 use Rattle.meaning.specs.Meaning.{places, ring_of, tables_right}
 use Rattle.meaning.proofs.Fit as Tables
 use Rattle.meaning.proofs.Fit.{whole_relays, whole_tablets, right_fit, right_ruled}
 use Rattle.write.specs.Tables.{relay_table, tablet_table}
-use Rattle.write.proofs.Filled.{rest_zeros, relays_filled, tablets_filled}
+use Rattle.write.proofs.Filled.{rest_zeros, table_as_it_is}
 use Rattle.tally.specs.Counted.{tally_of}
 use Rattle.histories.specs.Runs.{Memory, Step, called, called_all, gone_by, Small, Blank, station_of, steps_of}
 use Rattle.histories.proofs.Kept.{call_lengths}
@@ -31,15 +31,15 @@ use Rattle.histories.proofs.Runs.{run_right, run_means}
 
 module _ (rs ts : List ℕ) (fits : Tables.Fit rs ts) where
   relays_stay : rs ≡ relay_table (length rs) (ring_of rs ts)
-  unfolding relay_table ring_of relays_used
+  unfolding relay_table ring_of used_in
   relays_stay =
-      relays_filled rs (relays_used rs) (whole_relays rs fits.relays).0 (used_most (relay_number rs) (relay_places rs))
+      table_as_it_is rs (relays_used rs) (whole_relays rs fits.relays).0 (used_most (relay_number rs) (relay_places rs))
       (rest_zeros (relay_number rs) (relay_limit rs) (relays_used rs) (relay_places rs) fits.relays_rest)
 
   tablets_stay : ts ≡ tablet_table (length ts) (ring_of rs ts)
-  unfolding tablet_table ring_of tablets_used
+  unfolding tablet_table ring_of used_in
   tablets_stay =
-      tablets_filled ts (tablets_used ts) (whole_tablets ts fits.tablets).0
+      table_as_it_is ts (tablets_used ts) (whole_tablets ts fits.tablets).0
       (used_most (tablet_number ts) (tablet_places ts))
       (rest_zeros (tablet_number ts) (tablet_relay ts) (tablets_used ts) (tablet_places ts) fits.tablets_rest)
 

@@ -17,18 +17,18 @@ use Rattle.meaning.specs.Meaning as Meaning
 use Rattle.meaning.specs.Meaning.{tables_right}
 
 pub empty_right : (s : ℕ) → tables_right s [] [] ≡ true
-unfolding tables_right Meaning.ring_of Meaning.places Meaning.fit_tables Meaning.rest_unused Shape.relays_used
-    Shape.tablets_used Shape.used Shape.relay_fits Shape.tablet_fits Shape.all Table.relay_places Table.relay_whole
-    Table.tablet_places Table.tablet_whole Entry.numbers Rule.right Rule.rising Rule.limits_fit Rule.is_just Rule.same
+unfolding tables_right Meaning.ring_of Meaning.places Meaning.fit_tables Meaning.rest_unused Shape.used_in
+    Shape.used Shape.fits_in Shape.all Table.places_of Table.is_whole
+    Entry.numbers Rule.right Rule.rising Rule.limits_fit Rule.is_just Rule.same
     Rule.placement Rule.seat_all
 empty_right s = refl
 
 -- tablet 10 at relay 10
 pub one_number : tables_right 0 (10 ∷ 1 ∷ []) (10 ∷ 10 ∷ []) ≡ true
-unfolding tables_right Meaning.ring_of Meaning.places Meaning.fit_tables Meaning.rest_unused Shape.relays_used
-    Shape.tablets_used Shape.used Shape.relay_fits Shape.tablet_fits Shape.all Shape.unused Table.relay_places
-    Table.relay_number Table.relay_limit Table.relay_whole Table.tablet_places Table.tablet_number Table.tablet_relay
-    Table.tablet_whole Entry.numbers Entry.load Entry.count Entry.first Rule.right Rule.rising Rule.limits_fit Rule.is_just
+unfolding tables_right Meaning.ring_of Meaning.places Meaning.fit_tables Meaning.rest_unused Shape.used_in
+    Shape.used Shape.fits_in Shape.all Shape.unused Table.places_of
+    Table.number_in Table.beside_in Table.is_whole
+    Entry.numbers Entry.load Entry.count Entry.first Rule.right Rule.rising Rule.limits_fit Rule.is_just
     Rule.same Rule.placement Rule.seat_all Rule.seat Rule.has_room Order.order Order.queued Clockwise.sooner
     Clockwise.distance Clockwise.clockwise Scheme.positions Scheme.position
 one_number = refl

@@ -22,7 +22,7 @@ use Rattle.rule.proofs.Counts.{length_insert, delete_length}
 use Rattle.rule.proofs.Puts.{numbers_put}
 use Rattle.rule.proofs.Right.{length_numbers}
 use Rattle.tables.specs.Table.{relay_places, relay_number, relay_limit, tablet_places, tablet_number, tablet_relay}
-use Rattle.tables.specs.Shape.{relays_used, tablets_used}
+use Rattle.tables.specs.Shape.{relays_used, tablets_used, used_in}
 use Rattle.tables.proofs.Shaped.{used_most}
 use Rattle.meaning.specs.Meaning.{ring_of, lent_of}
 use Rattle.meaning.proofs.Places.{length_places}
@@ -32,7 +32,7 @@ module _ (s : ℕ) (rs ts ms : List ℕ) where
   g = ring_of rs ts
 
   relays_within : length g.relays ≤ relay_places rs
-  unfolding ring_of relays_used
+  unfolding ring_of used_in
   relays_within =
       omega (
         arith,
@@ -42,7 +42,7 @@ module _ (s : ℕ) (rs ts ms : List ℕ) where
       )
 
   tablets_within : length g.tablets ≤ tablet_places ts
-  unfolding ring_of tablets_used
+  unfolding ring_of used_in
   tablets_within =
       omega (
         arith,

@@ -70,9 +70,9 @@ pub two_enrolments :
           (5 ∷ 10 ∷ 6 ∷ 20 ∷ 30 ∷ 30 ∷ []) list;
     })
 unfolding Promise.after Promise.left Promise.written Promised.settled Promise.outcome_of Meaning.lent_of Meaning.ring_of
-    Meaning.places Meaning.fit_tables Meaning.rest_unused Shape.relays_used Shape.tablets_used Shape.used Shape.relay_fits
-    Shape.tablet_fits Shape.all Shape.unused Table.relay_places Table.relay_number Table.relay_limit Table.relay_whole
-    Table.tablet_places Table.tablet_number Table.tablet_relay Table.tablet_whole Tables.flat Tables.filled
+    Meaning.places Meaning.fit_tables Meaning.rest_unused Shape.used_in Shape.used Shape.fits_in
+    Shape.all Shape.unused Table.places_of Table.number_in Table.beside_in Table.is_whole
+    Tables.flat Tables.filled
     Tables.relay_table Tables.tablet_table Tables.flat_moves Tables.listed Scheme.known Scheme.positions Scheme.position
     Clockwise.clockwise Clockwise.distance Clockwise.sooner Entry.numbers Entry.has Entry.beside_of Entry.insert
     Entry.delete Entry.put Entry.total Entry.count Entry.load Entry.first Entry.up_to Order.queued Order.order Rule.full

@@ -1,8 +1,8 @@
 -- Those who fill the holes sit down.
---   sit_start, sit_on, sit_end    one after the other
+--   sit_start, sit_on             one after the other
 --   filled_from                   and the tablet that left is taken out
 -- Assumes nothing.
-use Rattle.std.proofs.Common.{◌≡◌, ℕ, zero, suc, ◌+◌, ◌-◌, ◌<◌, ◌≤◌, eqb, List, [], ◌∷◌, ◌++◌, length, get_or, take, sym, refl, ap, ◌∙◌, add-one, arith, length-take-le, take-suc, eqb-true}
+use Rattle.std.proofs.Common.{◌≡◌, ℕ, suc, ◌+◌, ◌-◌, ◌<◌, ◌≤◌, eqb, List, [], ◌∷◌, ◌++◌, length, get_or, take, sym, refl, ap, ◌∙◌, add-one, arith, length-take-le, take-suc, eqb-true}
 use borrow.Author.Tests.{eqb-false}
 use Rattle.ring.proofs.Tests.{split}
 use Rattle.rule.specs.declared.Move.{Move}
@@ -10,11 +10,11 @@ use Rattle.rule.specs.Entry.{Entry, delete, put}
 use Rattle.rule.specs.Calls.{move}
 use Rattle.rule.specs.Sweeps.{seated}
 use Rattle.rule.proofs.Puts.{delete_hit, delete_miss, put_hit, put_miss}
-use Rattle.tables.specs.Table.{tablet_places, tablet_number, tablet_relay}
+use Rattle.tables.specs.Table.{tablet_places, tablet_number, tablet_relay, places_of}
 use Rattle.meaning.specs.Meaning.{tablets_in}
 use Rattle.write.specs.Tables.{listed}
 use Rattle.place.specs.MoveList.{set_move}
-use Rattle.write.specs.Wrote.{WroteTablets, Climbs}
+use Rattle.write.specs.Wrote.{WroteEntries, Climbs}
 use Rattle.place.specs.Places.{SetBeside}
 use Rattle.write.specs.Places.{TookOut}
 use Rattle.write.proofs.Listed.{listed_none, listed_more, length_listed}
@@ -55,18 +55,18 @@ seated_more (x ∷ ms) m es = seated_more ms m (put x.tablet.0 x.new.0 es)
 
 -- ---- the loop
 
-module _ (ts ms : List ℕ) (m : ℕ) (places : List ℕ) (count r : ℕ) where
+module _ (ts ms : List ℕ) (m : ℕ) (places : List ℕ) (r : ℕ) where
   -- the moves of the first c
   abbrev firsts : ℕ → List Move
   firsts c = moves_of ts r (take c places)
 
   pub record Sitting (tablets moves : List ℕ) (new c : ℕ) : Type 0 where
-    pub within : c ≤ count
+    pub within : c ≤ length places
     pub size : length tablets ≡ length ts
     pub entries : tablets_in tablets m ≡ seated (moves_of ts r (take c places)) (tablets_in ts m)
     pub numbers : (i : ℕ) → tablet_number tablets i ≡ tablet_number ts i
     pub behind : (i : ℕ) → m ≤ i → tablet_relay tablets i ≡ tablet_relay ts i
-    pub still : (d : ℕ) → c ≤ d → d < count → tablet_relay tablets (get_or places d 0) ≡ tablet_relay ts (get_or places d 0)
+    pub still : (d : ℕ) → c ≤ d → d < length places → tablet_relay tablets (get_or places d 0) ≡ tablet_relay ts (get_or places d 0)
     pub list : moves ≡ listed (moves_of ts r (take c places)) ms
     pub left : new ≡ left_by ts r (take c places)
 
@@ -84,13 +84,13 @@ module _ (ts ms : List ℕ) (m : ℕ) (places : List ℕ) (count r : ℕ) where
         left = refl;
       }
 
-  module _ (f : Fillers ts ms m places count) {tablets moves : List ℕ} {new c : ℕ}
+  module _ (f : Fillers ts ms m places) {tablets moves : List ℕ} {new c : ℕ}
       (s : Sitting tablets moves new c) where
     pub sit_climbs : Climbs (tablet_number tablets) m
     sit_climbs = record { up = λ i l h k. rw (s.numbers i, s.numbers l) (f.numbers.up i l h k) }
 
     pub sit_there : m ≤ tablet_places tablets
-    unfolding tablet_places
+    unfolding places_of
     sit_there = omega (arith, s.size, f.there)
 
     pub sit_long : length moves ≡ length ms
@@ -100,15 +100,15 @@ module _ (ts ms : List ℕ) (m : ℕ) (places : List ℕ) (count r : ℕ) where
           arith,
           length_moves ts r (take c places),
           length-take-le c places
-              (omega (arith, s.within, f.few, f.size)),
+              (omega (arith, s.within)),
           s.within,
           f.long,
         ))
 
-    module _ (h : c < count) {j : ℕ} (ej : j ≡ get_or places c 0) {t old : ℕ} (et : t ≡ tablet_number tablets j)
+    module _ (h : c < length places) {j : ℕ} (ej : j ≡ get_or places c 0) {t old : ℕ} (et : t ≡ tablet_number tablets j)
         (eo : old ≡ tablet_relay tablets j)
         {moves' : List ℕ} (em : moves' ≡ set_move moves c t old new) {tablets' : List ℕ}
-        (es : WroteTablets tablets tablets' m (put (tablet_number tablets j) new (tablets_in tablets m))
+        (es : WroteEntries tablets tablets' m (put (tablet_number tablets j) new (tablets_in tablets m))
         × SetBeside tablet_number tablet_relay tablets tablets' j new) where
       abbrev J : ℕ
       J = get_or places c 0
@@ -117,7 +117,7 @@ module _ (ts ms : List ℕ) (m : ℕ) (places : List ℕ) (count r : ℕ) where
       one = move (tablet_number ts J) (tablet_relay ts J) (left_by ts r (take c places))
 
       inside : c < length places
-      inside = omega (arith, f.few, f.size)
+      inside = omega arith
 
       next : take (c + 1) places ≡ take c places ++ (J ∷ [])
       next = ap (λ (k : ℕ). take k places) (add-one c) ∙ take-suc places c 0 inside
@@ -131,7 +131,7 @@ module _ (ts ms : List ℕ) (m : ℕ) (places : List ℕ) (count r : ℕ) where
       same_old : old ≡ tablet_relay ts J
       same_old = eo ∙ ap (tablet_relay tablets) ej ∙ s.still c (omega arith) h
 
-      apart : (d : ℕ) → c < d → d < count → get_or places d 0 ≡ j → ⊥
+      apart : (d : ℕ) → c < d → d < length places → get_or places d 0 ≡ j → ⊥
       apart d k l e = omega (arith, f.up c d k l)
 
       pub sit_on : Sitting tablets' moves' old (c + 1)
@@ -147,7 +147,7 @@ module _ (ts ms : List ℕ) (m : ℕ) (places : List ℕ) (count r : ℕ) where
                 ∙ sym (seated_more (firsts c) one (tablets_in ts m))
                 ∙ ap (λ (l : List Move). seated l (tablets_in ts m)) (sym grown);
             numbers = λ i. es.1.numbers i ∙ s.numbers i;
-            behind = λ i k. es.0.relay i k ∙ s.behind i k;
+            behind = λ i k. es.0.beside i k ∙ s.behind i k;
             still = λ d k l. es.1.besides (get_or places d 0) (apart d (omega arith) l) ∙ s.still d (omega arith) l;
             list =
                 listed_more (firsts c) ms one s.list
@@ -156,24 +156,6 @@ module _ (ts ms : List ℕ) (m : ℕ) (places : List ℕ) (count r : ℕ) where
                 ∙ ap (λ (l : List Move). listed l ms) (sym grown);
             left = same_old ∙ sym (ap (left_by ts r) next ∙ left_more ts r (take c places) J);
           }
-
-    pub sit_end : count ≤ c
-        → MovedUp ts tablets m (moves_of ts r (take count places))
-        × (moves ≡ listed (moves_of ts r (take count places)) ms)
-    sit_end h =
-        let z : c ≡ count = omega (arith, s.within) in
-        rw (← z) (
-          record {
-            wrote = record {
-              size = s.size;
-              entries = s.entries;
-              number = λ i k. s.numbers i;
-              relay = s.behind;
-            };
-            numbers = s.numbers;
-          },
-          s.list,
-        )
 
 -- ---- the tablet that left
 
@@ -201,13 +183,11 @@ module _ (ts : List ℕ) (x : ℕ) where
   Others [] = Unit {0}
   Others (j ∷ js) = (tablet_number ts j ≡ x → ⊥) × Others js
 
-  others_take : (places : List ℕ) (count : ℕ) → count ≤ length places
-      → ((c : ℕ) → c < count → tablet_number ts (get_or places c 0) ≡ x → ⊥) → Others (take count places)
+  others_of : (places : List ℕ) → ((c : ℕ) → c < length places → tablet_number ts (get_or places c 0) ≡ x → ⊥)
+      → Others places
   unfolding Others
-  others_take places zero l h = tt
-  others_take [] (suc count) l h = tt
-  others_take (j ∷ places) (suc count) l h =
-      (h 0 (omega arith), others_take places count (omega arith) (λ c k. h (suc c) (omega arith)))
+  others_of [] h = tt
+  others_of (j ∷ places) h = (h 0 (omega arith), others_of places (λ c k. h (suc c) (omega arith)))
 
   delete_seated : (js : List ℕ) (r : ℕ) (es : List Entry) → Others js → delete x (seated (moves_of ts r js) es)
       ≡ seated (moves_of ts r js) (delete x es)
@@ -217,19 +197,19 @@ module _ (ts : List ℕ) (x : ℕ) where
       delete_seated js (tablet_relay ts j) (put (tablet_number ts j) r es) o.1
       ∙ ap (seated (moves_of ts (tablet_relay ts j) js)) (delete_put x (tablet_number ts j) r es o.0)
 
-module _ {ts ms : List ℕ} {m : ℕ} {places : List ℕ} {count at : ℕ} (f : Fillers ts ms m places count) (h : at < m)
-    (k : Climbing places count at m) (r : ℕ)
-    {mid : List ℕ} (s : MovedUp ts mid m (moves_of ts r (take count places))) where
+module _ {ts ms : List ℕ} {m : ℕ} {places : List ℕ} {at : ℕ} (f : Fillers ts ms m places) (h : at < m)
+    (k : Climbing places at m) (r : ℕ)
+    {mid : List ℕ} (s : MovedUp ts mid m (moves_of ts r places)) where
   pub filled_climbs : Climbs (tablet_number mid) m
   filled_climbs = record { up = λ i l u v. rw (s.numbers i, s.numbers l) (f.numbers.up i l u v) }
 
   pub filled_there : m ≤ tablet_places mid
-  unfolding tablet_places
+  unfolding places_of
   filled_there = omega (arith, s.wrote.size, f.there)
 
   taken : {after : List ℕ} → TookOut tablet_number tablet_relay mid after (m - 1)
       (delete (tablet_number mid at) (tablets_in mid m))
-      → Filled ts after m at (moves_of ts r (take count places))
+      → Filled ts after m at (moves_of ts r places)
   taken t =
       record {
         took =
@@ -239,22 +219,22 @@ module _ {ts ms : List ℕ} {m : ℕ} {places : List ℕ} {count at : ℕ} (f : 
                   t.entries
                   ∙ ap (λ (x : ℕ). delete x (tablets_in mid m)) (s.numbers at)
                   ∙ ap (delete (tablet_number ts at)) s.wrote.entries
-                  ∙ delete_seated ts (tablet_number ts at) (take count places) r (tablets_in ts m) others;
+                  ∙ delete_seated ts (tablet_number ts at) places r (tablets_in ts m) others;
               number = t.number;
               beside = t.beside;
               numbers = λ i l. t.numbers i l ∙ s.numbers i;
-              besides = λ i l. t.besides i l ∙ s.wrote.relay i (omega arith);
+              besides = λ i l. t.besides i l ∙ s.wrote.beside i (omega arith);
             };
       }
     where
-      others : Others ts (tablet_number ts at) (take count places)
+      others : Others ts (tablet_number ts at) places
       others =
-          others_take ts (tablet_number ts at) places count (omega (arith, f.few, f.size))
+          others_of ts (tablet_number ts at) places
           (λ c l e. omega (arith, f.numbers.up at (get_or places c 0) (k.above c l) (k.below c l)))
 
   pub filled_from : {after moves : List ℕ} → TookOut tablet_number tablet_relay mid after (m - 1)
       (delete (tablet_number mid at) (tablets_in mid m))
-      → moves ≡ listed (moves_of ts r (take count places)) ms → r ≡ tablet_relay ts at
-      → Filled ts after m at (moves_of ts (tablet_relay ts at) (take count places))
-      × (moves ≡ listed (moves_of ts (tablet_relay ts at) (take count places)) ms)
+      → moves ≡ listed (moves_of ts r places) ms → r ≡ tablet_relay ts at
+      → Filled ts after m at (moves_of ts (tablet_relay ts at) places)
+      × (moves ≡ listed (moves_of ts (tablet_relay ts at) places) ms)
   filled_from t l e = rw (← e) (taken t, l)

@@ -8,7 +8,7 @@ use Rattle.rule.specs.Sweeps.{seated}
 use Rattle.tables.specs.Table.{tablet_places, tablet_number, tablet_relay}
 use Rattle.meaning.specs.Meaning.{tablets_in}
 use Rattle.meaning.specs.Ascending.{Ascending}
-use Rattle.write.specs.Wrote.{WroteTablets}
+use Rattle.write.specs.Wrote.{WroteEntries}
 use Rattle.write.specs.Places.{TookOut}
 
 -- the moves of the tablets at these places: the first to relay r, each other to the relay that the one before leaves
@@ -16,19 +16,18 @@ unfoldable pub moves_of : List ℕ → ℕ → List ℕ → List Move
 moves_of ts r [] = []
 moves_of ts r (j ∷ js) = move (tablet_number ts j) (tablet_relay ts j) r ∷ moves_of ts (tablet_relay ts j) js
 
--- m tablets by rising number, so many rising places among them, and a move list that is long enough
-pub record Fillers (ts ms : List ℕ) (m : ℕ) (places : List ℕ) (count : ℕ) : Type 0 where
+-- m tablets by rising number, rising places among them, and a move list that is long enough
+pub record Fillers (ts ms : List ℕ) (m : ℕ) (places : List ℕ) : Type 0 where
   pub there : m ≤ tablet_places ts
   pub numbers : Ascending (tablet_number ts) m
-  pub size : length places ≡ most_relays
-  pub few : count ≤ most_relays
-  pub below : (c : ℕ) → c < count → slice_index places c < m
-  pub up : (c d : ℕ) → c < d → d < count → slice_index places c < slice_index places d
-  pub long : 3 * count ≤ length ms
+  pub few : length places ≤ most_relays
+  pub below : (c : ℕ) → c < length places → slice_index places c < m
+  pub up : (c d : ℕ) → c < d → d < length places → slice_index places c < slice_index places d
+  pub long : 3 * length places ≤ length ms
 
 -- the first m tablets sit by these moves, every number stays, and so do the places behind them
 pub record MovedUp (before after : List ℕ) (m : ℕ) (moves : List Move) : Type 0 where
-  pub wrote : WroteTablets before after m (seated moves (tablets_in before m))
+  pub wrote : WroteEntries before after m (seated moves (tablets_in before m))
   pub numbers : (i : ℕ) → tablet_number after i ≡ tablet_number before i
 
 -- so they sit without the tablet at place `at`

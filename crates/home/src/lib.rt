@@ -15,34 +15,29 @@ pub fn advance(keys: &[u64; ring::MOST_RELAYS], n: usize, h: usize, x: u64) -> u
     requires { (n ≤ most_relays) × KeysRise n keys.now × Begins keys.now n x h }
     ensures { Home keys.now n x result }
 {
-    let mut k = h;
-    while k < n {
+    for k in h..n {
         if x <= keys[k] {
             return k;
         }
-        k += 1;
     }
-    k
+    n
 }
 
 // The arc that a key lies in.
 fn arc_of(key: u64) -> usize
     ensures { (result ≡ key / key_at arc) × (result < arcs) }
 {
-    (key / 18014398509481984) as usize
+    (key / (ARC * ring::NUMBERS)) as usize
 }
 
 // A walk to the arcs from `from` to `top` begins at slot k. Answers with the first arc past them.
 fn mark(start: &mut [u16; ARCS], from: usize, top: usize, k: u16) -> usize
-    requires { (from ≤ arcs) × (top < arcs) × (length start.old ≡ arcs) }
+    requires { (from ≤ arcs) × (top < arcs) }
     ensures { Marked from top k start.old start.new result }
 {
-    let mut b = from;
-    while b <= top {
-        start[b] = k;
-        b += 1;
-    }
-    b
+    let past = from.max(top + 1);
+    start[from..past].fill(k);
+    past
 }
 
 // Do the positions of rising numbers rise in this scheme? Nothing but the length of a walk rests on the answer.
@@ -62,12 +57,10 @@ pub fn arc_starts(keys: &[u64; ring::MOST_RELAYS], n: usize, in_turn: bool) -> [
         return start;
     }
     let mut b: usize = 0;
-    let mut k: usize = 0;
-    while k < n {
-        b = mark(&mut start, b, arc_of(keys[k]), k as u16);
-        k += 1;
+    for (k, key) in keys[..n].iter().enumerate() {
+        b = mark(&mut start, b, arc_of(*key), k as u16);
     }
-    mark(&mut start, b, ARCS - 1, k as u16);
+    mark(&mut start, b, ARCS - 1, n as u16);
     start
 }
 
@@ -75,7 +68,7 @@ pub fn arc_starts(keys: &[u64; ring::MOST_RELAYS], n: usize, in_turn: bool) -> [
 fn goes_on(in_turn: bool, last: ring::Position, p: ring::Position) -> bool
     ensures { result ≡ (in_turn && leb last.0 p.0) }
 {
-    if in_turn { last.0 <= p.0 } else { false }
+    in_turn && last <= p
 }
 
 // The home of position p. Where positions come in turn, the walk begins at h, the home of the last position, if p is not before that;
@@ -93,12 +86,11 @@ pub fn home_of(
         × Begins keys.now n (key_at last.0) h }
     ensures { Home keys.now n (key_at p.0) result }
 {
-    let at = p.0 as u64;
-    let x = at * ring::NUMBERS;
-    let on = goes_on(in_turn, last, p);
-    if on {
-        return advance(keys, n, h, x);
-    }
-    let b = (at / ARC) as usize;
-    advance(keys, n, ring::from_u16(start[b]), x)
+    let at = u64::from(p.0);
+    let from = if goes_on(in_turn, last, p) {
+        h
+    } else {
+        usize::from(start[(at / ARC) as usize])
+    };
+    advance(keys, n, from, at * ring::NUMBERS)
 }

@@ -4,16 +4,14 @@
 use mathlib.Core.Bool.{true, false}
 use mathlib.Core.List.{List, [], ◌∷◌, ◌++◌, append-nil, append_assoc}
 use mathlib.Core.Path.{◌≡◌, refl, sym, ap, ◌∙◌}
+use Rattle.std.specs.Prelude.{Option, Some, None}
 use Prim.Native.Nat.{ℕ, ◌+◌, min}
 use native.Mathlib.Omega.{arith}
 use borrow.Author.Tests.{lt-ltb, le-ltb}
 use lib.Dec.{eqb, ltb}
 use lib.ListN.{length, take, set, length-set}
 use Rattle.ring.proofs.Tests.{split}
-use Rattle.line.specs.declared.Line as lines
-use Rattle.line.specs.declared.Line.TheVariants as line
-use Rattle.line.specs.declared.First as firsts
-use Rattle.line.specs.declared.First.TheVariants as names
+use Rattle.rule.specs.declared.Call.{Call}
 use Rattle.line.specs.Line.{onto, scheme_of, meaning_of}
 use Rattle.stage.specs.declared.Stage.{Stage}
 use Rattle.stage.specs.declared.Stage.TheVariants.{First, Under, Over}
@@ -45,15 +43,15 @@ begun_onto (a ∷ l) b (w ∷ ws) = ap (λ x. x ∷ ws) (sym (append_assoc (a �
 
 -- ---- nothing is kept of a line that is answered
 
-first_kept : (l : List ℕ) (f : firsts.First) → (first l f).kept ≡ 0
+first_kept : (l : List ℕ) (f : Option ℕ) → (first l f).kept ≡ 0
 unfolding first other says
-first_kept l (names.Scheme s) = refl
-first_kept l names.Other = refl
+first_kept l (Some s) = refl
+first_kept l None = refl
 
-under_kept : (s : ℕ) (rs ts ms : List ℕ) (m : lines.Line) → (under s rs ts ms m).reply.kept ≡ 0
+under_kept : (s : ℕ) (rs ts ms : List ℕ) (m : Option Call) → (under s rs ts ms m).reply.kept ≡ 0
 unfolding under called unchanged other says
-under_kept s rs ts ms (line.Call c) = refl
-under_kept s rs ts ms line.Other = refl
+under_kept s rs ts ms (Some c) = refl
+under_kept s rs ts ms None = refl
 
 answered_kept : (next : Stage) (rs ts ms l : List ℕ) → (answered next rs ts ms l).reply.kept ≡ 0
 unfolding answered unchanged says

@@ -4,6 +4,7 @@
 -- Assumes nothing.
 use mathlib.Core.List.{List, [], ◌∷◌}
 use mathlib.Core.Path.{◌≡◌, ap, ◌∙◌}
+use Rattle.std.specs.Prelude.{Option, Some, None}
 use Prim.Native.Nat.{ℕ, ◌+◌, ◌*◌, ◌/◌, ◌≤◌}
 use native.Mathlib.Omega.{arith}
 use lib.Dec.{eqb}
@@ -11,10 +12,7 @@ use lib.ListN.{length, take, drop, length-append, length-take}
 use lib.Seq.{sets-eq, take-append_seam}
 use Rattle.ring.proofs.Tests.{split}
 use Rattle.call_start.specs.Promise.{Lists, after}
-use Rattle.line.specs.declared.Line as lines
-use Rattle.line.specs.declared.Line.TheVariants as line
-use Rattle.line.specs.declared.First as firsts
-use Rattle.line.specs.declared.First.TheVariants as names
+use Rattle.rule.specs.declared.Call.{Call}
 use Rattle.line.specs.Line.{scheme_of, meaning_of}
 use Rattle.text.specs.Puts.{Puts}
 use Rattle.text.proofs.Puts.{puts_within}
@@ -31,16 +29,16 @@ use Rattle.input.specs.Bytes.{keeping, taken, Takes}
 record Roomy (a : Left) : Type 0 where
   pub room : length a.reply.text ≤ 44 + 35 * (length a.lent.moves / 3)
 
-first_room : (rs ts ms l : List ℕ) (f : firsts.First) → length l ≤ 24 → Roomy (unchanged rs ts ms (first l f))
+first_room : (rs ts ms l : List ℕ) (f : Option ℕ) → length l ≤ 24 → Roomy (unchanged rs ts ms (first l f))
 unfolding first other says unchanged
-first_room rs ts ms l (names.Scheme s) h = record { room = omega (arith, length-append l (10 ∷ [])) }
-first_room rs ts ms l names.Other h = record { room = omega arith }
+first_room rs ts ms l (Some s) h = record { room = omega (arith, length-append l (10 ∷ [])) }
+first_room rs ts ms l None h = record { room = omega arith }
 
-under_room : (s : ℕ) (rs ts ms : List ℕ) (m : lines.Line) → Roomy (under s rs ts ms m)
+under_room : (s : ℕ) (rs ts ms : List ℕ) (m : Option Call) → Roomy (under s rs ts ms m)
 unfolding under called unchanged other says
-under_room s rs ts ms (line.Call c) =
+under_room s rs ts ms (Some c) =
     record { room = answer_room (after s rs ts ms c).reply (after s rs ts ms c).lent.moves }
-under_room s rs ts ms line.Other = record { room = omega arith }
+under_room s rs ts ms None = record { room = omega arith }
 
 answered_room : (next : Stage) (rs ts ms l : List ℕ) → length l ≤ 24 → Roomy (answered next rs ts ms l)
 unfolding answered unchanged says

@@ -1,10 +1,9 @@
 -- From what was answered, and from what was kept, to the promise of a byte.
---   take_part                a part of a slice from its start on
 --   takes_end, takes_kept    a newline, and any other byte
 -- Assumes nothing.
 use mathlib.Core.List.{List, [], ◌∷◌}
-use mathlib.Core.Path.{◌≡◌, refl, ap}
-use Prim.Native.Nat.{ℕ, ◌-◌}
+use mathlib.Core.Path.{◌≡◌, refl}
+use Prim.Native.Nat.{ℕ}
 use native.Mathlib.Omega.{arith}
 use borrow.Author.Tests.{eq-eqb, ne_eqb}
 use lib.ListN.{take}
@@ -15,9 +14,6 @@ use Rattle.stage.specs.declared.Standing.{Standing}
 use Rattle.dialogue.specs.Lines.{answered, Shows}
 use Rattle.input.specs.Bytes.{keeping, taken, line_then, Takes}
 use Rattle.dialogue.proofs.Answers.{shows_said}
-
-pub take_part : (k : ℕ) (l : List ℕ) → take (k - 0) l ≡ take k l
-take_part k l = let e : k - 0 ≡ k = omega arith in ap (λ n. take n l) e
 
 module _ {at : Standing} {rs ts ms line out : List ℕ} {b : ℕ} where
   pub takes_end : {r : Standing} {k : Lists ℕ} {out' l : List ℕ} → b ≡ 10 → l ≡ take at.kept line

@@ -10,13 +10,11 @@ ghost use Rattle.input.specs.Bytes.{Takes};
 fn kept_part(line: &[u8], kept: usize) -> &[u8]
     ensures { result.now ≡ take kept line.now }
 {
-    if line.len() < kept {
-        return line;
-    }
-    &line[0..kept]
+    line.get(..kept).unwrap_or(line)
 }
 
-// What a byte of the input does: a newline ends the line, and any other is kept.
+// What a byte of the input does: a newline ends the line, and any other is kept. The lent slices go apart, as the calls take them: the C
+// interface lends them so.
 pub fn take_byte(
     relays: &mut [u32],
     tablets: &mut [u32],
@@ -30,16 +28,15 @@ pub fn take_byte(
         answer.old b
         result (lists relays.new tablets.new moves.new) line.new answer.new }
 {
-    let stage = at.stage;
-    let kept = at.kept;
     let ends = b == b'\n';
     if ends {
-        return dialogue::answer_line(relays, tablets, moves, answer, stage, kept_part(line, kept));
+        let whole = kept_part(line, at.kept);
+        return dialogue::answer_line(relays, tablets, moves, answer, at.stage, whole);
     }
-    let more = text::put_byte(line, kept, b);
+    let kept = text::put_byte(line, at.kept, b);
     stage::Standing {
-        stage: stage,
-        kept: more,
+        stage: at.stage,
+        kept,
         due: 0,
     }
 }

@@ -1,16 +1,15 @@
 -- A block's entries, written into a table one after the other.
---   block_length                  how many there are
---   entries_more, entries_all     one more is written, and all
+--   block_length    how many there are
+--   entries_more    one more is written
 -- Assumes nothing.
 use mathlib.Core.List.{List, [], ◌∷◌, ◌++◌, append_assoc}
 use mathlib.Core.Path.{◌≡◌, sym, ◌∙◌}
-use Prim.Native.Nat.{ℕ, suc, ◌+◌, ◌*◌, ◌≤◌, ◌<◌}
+use Prim.Native.Nat.{ℕ, suc, ◌+◌, ◌*◌, ◌<◌}
 use native.Mathlib.Numerals.{add-one}
 use native.Mathlib.Omega.{arith}
 use lib.ListN.{length, take, set, length-set}
-use lib.Seq.{take_all, take-suc-set}
+use lib.Seq.{take-suc-set}
 use Rattle.rule.specs.Entry.{entry}
-use Rattle.tables.proofs.Loops.{at_end}
 use Rattle.meaning.specs.Meaning.{places}
 use Rattle.meaning.proofs.Places.{length_places}
 use Rattle.write.specs.Tables.{flat}
@@ -46,7 +45,3 @@ module _ (b : List ℕ) (at : ℕ) where
       two_more l i x v h ∙ rw (add-one, p, q, r)
       (sym (flat_more (block b at i) (entry (number_at b (at + entry_bytes * i))
       (number_at b (at + entry_bytes * i + number_bytes)))))
-
-  pub entries_all : (l : List ℕ) {i n : ℕ} → i ≤ n → n ≤ i → length l ≡ 2 * n → take (2 * i) l ≡ flat (block b at i)
-      → l ≡ flat (block b at n)
-  entries_all l {i} {n} p q s e = sym (take_all (2 * i) l (omega arith)) ∙ at_end (λ (k : ℕ). flat (block b at k)) p q e

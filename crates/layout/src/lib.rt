@@ -15,20 +15,12 @@ const TRAILER_BYTES: usize = 20;
 
 // ---- numbers
 
-fn wide(byte: u8) -> u32
-    ensures { (result ≡ byte) × (result < 256) }
-{
-    byte as u32
-}
-
+#[tactic(auto, unfolding(crate::specs::Numbers::number_at))]
 pub fn number_at(bytes: &[u8], at: usize) -> u32
     requires { at + number_bytes ≤ length bytes.now }
     ensures { result ≡ number_at bytes.now at }
 {
-    wide(bytes[at])
-        + wide(bytes[at + 1]) * 256
-        + wide(bytes[at + 2]) * 65536
-        + wide(bytes[at + 3]) * 16777216
+    u32::from_le_bytes([bytes[at], bytes[at + 1], bytes[at + 2], bytes[at + 3]])
 }
 
 // ---- the blocks
@@ -38,28 +30,24 @@ pub fn entries(bytes: &[u8], at: usize, count: usize, table: &mut [u32])
     requires { (at + entry_bytes * count ≤ length bytes.now) × (length table.old ≡ 2 * count) }
     ensures { table.new ≡ flat (block bytes.now at count) }
 {
-    let mut i: usize = 0;
-    while i < count {
-        let number = number_at(bytes, at + ENTRY_BYTES * i);
-        let beside = number_at(bytes, at + ENTRY_BYTES * i + NUMBER_BYTES);
-        table[2 * i] = number;
-        table[2 * i + 1] = beside;
-        i += 1;
+    for i in 0..count {
+        table[2 * i] = number_at(bytes, at + ENTRY_BYTES * i);
+        table[2 * i + 1] = number_at(bytes, at + ENTRY_BYTES * i + NUMBER_BYTES);
     }
 }
 
 // ---- the trailer
 
-// Is the shape right, and what are the counts and the scheme?
+// How many entries there are, and the scheme.
 #[derive(Clone, Copy)]
 pub struct Trailer {
-    pub right: bool,
     pub relays: usize,
     pub tablets: usize,
     pub scheme: u32,
 }
 
-// Field k of the trailer, counted from 0.
+// Field k of the trailer, counted from 0. By its offset, as document 01 counts from the end: five chunks of four have to be tied to it first.
+#[tactic(auto, unfolding(crate::specs::Roster::field))]
 fn field(bytes: &[u8], k: usize) -> u32
     requires { (trailer_bytes ≤ length bytes.now) × (k < 5) }
     ensures { result ≡ field bytes.now k }
@@ -68,6 +56,7 @@ fn field(bytes: &[u8], k: usize) -> u32
 }
 
 // Is the shape right of so many bytes, with these distances from the end back to the blocks and these counts?
+#[tactic(auto, unfolding(crate::specs::Roster::shaped))]
 fn shaped(
     len: usize,
     relay_distance: usize,
@@ -77,49 +66,39 @@ fn shaped(
 ) -> bool
     ensures { result ≡ shaped len relay_distance relays tablet_distance tablets }
 {
-    if relays > ring::MOST_RELAYS {
-        return false;
-    }
-    if tablets > ring::MOST_TABLETS {
-        return false;
-    }
-    if tablet_distance != TRAILER_BYTES + ENTRY_BYTES * tablets {
-        return false;
-    }
-    if relay_distance != tablet_distance + ENTRY_BYTES * relays {
-        return false;
-    }
-    len == relay_distance
+    relays <= ring::MOST_RELAYS
+        && tablets <= ring::MOST_TABLETS
+        && tablet_distance == TRAILER_BYTES + ENTRY_BYTES * tablets
+        && relay_distance == tablet_distance + ENTRY_BYTES * relays
+        && len == relay_distance
 }
 
-// What the trailer of any bytes says. Bytes too short for one have no right shape.
-pub fn open(bytes: &[u8]) -> Trailer
+// What the trailer of bytes of right shape says.
+#[tactic(auto, unfolding(crate::specs::Opened::trailer_of, crate::specs::Opened::opened, crate::specs::Roster::shape_right))]
+pub fn open(bytes: &[u8]) -> Option<Trailer>
     ensures { result ≡ trailer_of bytes.now }
 {
     if bytes.len() < TRAILER_BYTES {
-        return Trailer {
-            right: false,
-            relays: 0,
-            tablets: 0,
-            scheme: 0,
-        };
+        return None;
     }
     let relay_distance = field(bytes, 0) as usize;
     let relays = field(bytes, 1) as usize;
     let tablet_distance = field(bytes, 2) as usize;
     let tablets = field(bytes, 3) as usize;
     let scheme = field(bytes, 4);
-    let right = shaped(
+    if shaped(
         bytes.len(),
         relay_distance,
         relays,
         tablet_distance,
         tablets,
-    );
-    Trailer {
-        right: right,
-        relays: relays,
-        tablets: tablets,
-        scheme: scheme,
+    ) {
+        Some(Trailer {
+            relays,
+            tablets,
+            scheme,
+        })
+    } else {
+        None
     }
 }

@@ -5,6 +5,7 @@
 use mathlib.Core.Bool.{true, false, and-false}
 use mathlib.Core.List.{List, [], ◌∷◌}
 use mathlib.Core.Path.{◌≡◌, refl, sym, ap, ◌∙◌}
+use Rattle.std.specs.Prelude.{None}
 use Prim.Native.Nat.{ℕ, zero, suc, ◌+◌, ◌*◌, ◌-◌, ◌≤◌, ◌<◌}
 use native.Mathlib.Omega.{arith}
 use borrow.Author.Tests.{eqb-false, ltb-true, ltb-false, lt-leb}
@@ -12,14 +13,10 @@ use lib.Dec.{eqb, ltb}
 use lib.ListN.{length, take, length-take}
 use lib.Seq.{take_all}
 use Rattle.ring.proofs.Tests.{split, and_left}
-use Rattle.line.specs.declared.Number.{Number}
-use Rattle.line.specs.declared.Number.TheVariants.{Not}
-use Rattle.line.specs.declared.Line.TheVariants as line
-use Rattle.line.specs.declared.First.TheVariants as first
 use Rattle.line.specs.Decimal.{digit, all_digits, value, leading_zero, plain, decimal_of}
-use Rattle.line.specs.Line.{onto, words, letter_of, with_one, with_two, said, meaning_of, following, known_or, named, scheme_word, scheme_of}
+use Rattle.line.specs.Line.{onto, words, letter_of, said, meaning_of, following, known_or, named, scheme_word, scheme_of}
 use Rattle.line.proofs.Decimals.{digit_least, decimal_zero}
-use Rattle.line.proofs.Words.{two_not, one_none, two_none}
+use Rattle.line.proofs.Words.{one_not, not_two, two_not, one_none, two_none}
 
 -- ---- decimals
 
@@ -55,15 +52,15 @@ large b bs h z d =
     let t : 1 ≤ 0 * 10 + (b - 48) = omega (arith, eqb-false b 48 z) in
     omega (arith, raised_more 10 1 (0 * 10 + (b - 48)) t, value_raised 10 (0 * 10 + (b - 48)) bs h)
 
-not_large : (word : List ℕ) → 4294967295 < value 0 word → decimal_of word ≡ Not
+not_large : (word : List ℕ) → 4294967295 < value 0 word → decimal_of word ≡ None
 unfolding decimal_of plain
 not_large word h = rw (lt-leb (value 0 word) 4294967295 h, and-false, and-false, and-false)
 
-not_digits : (word : List ℕ) → all_digits word ≡ false → decimal_of word ≡ Not
+not_digits : (word : List ℕ) → all_digits word ≡ false → decimal_of word ≡ None
 unfolding decimal_of plain
 not_digits word h = rw (h, and-false)
 
-decimal_long : (word : List ℕ) → 10 < length word → decimal_of word ≡ Not
+decimal_long : (word : List ℕ) → 10 < length word → decimal_of word ≡ None
 unfolding leading_zero
 decimal_long [] h = absurd (omega arith)
 decimal_long (b ∷ []) h = absurd (omega arith)
@@ -98,16 +95,8 @@ letter_long [] h = absurd (omega arith)
 letter_long (b ∷ []) h = absurd (omega arith)
 letter_long (b ∷ c ∷ more) h = refl
 
-one_not : (letter : ℕ) → with_one letter Not ≡ line.Other
-unfolding with_one
-one_not letter = refl
-
-not_two : (letter : ℕ) (limit : Number) → with_two letter Not limit ≡ line.Other
-unfolding with_two
-not_two letter limit = refl
-
 -- a letter, two numbers of ten digits and the spaces between them are 23 bytes
-said_long : (ws : List (List ℕ)) → 24 < span ws → said ws ≡ line.Other
+said_long : (ws : List (List ℕ)) → 24 < span ws → said ws ≡ None
 unfolding said span
 said_long [] h = refl
 said_long (w ∷ []) h = refl
@@ -133,17 +122,17 @@ module _ {A : Type 0} (f : List ℕ → A) (other : A) (long : (l : List ℕ) �
 
 pub meaning_first : (l : List ℕ) → meaning_of (take 24 l) ≡ meaning_of l
 unfolding meaning_of
-meaning_first = first_bytes meaning_of line.Other (λ l h. said_long (words l) (omega (arith, words_span l)))
+meaning_first = first_bytes meaning_of None (λ l h. said_long (words l) (omega (arith, words_span l)))
 
-behind_long : (p l : List ℕ) → length p + 10 < length l → named (following p l) ≡ first.Other
+behind_long : (p l : List ℕ) → length p + 10 < length l → named (following p l) ≡ None
 unfolding following named known_or
 behind_long [] l h = rw (decimal_long l (omega arith))
 behind_long (x ∷ p) [] h = refl
 behind_long (x ∷ p) (b ∷ l) h = split (eqb x b) (λ s. rw s (behind_long p l (omega arith))) (λ s. rw s)
 
-pub scheme_long : (l : List ℕ) → 23 < length l → scheme_of l ≡ first.Other
+pub scheme_long : (l : List ℕ) → 23 < length l → scheme_of l ≡ None
 unfolding scheme_of scheme_word
 scheme_long l h = behind_long scheme_word l (omega arith)
 
 pub scheme_first : (l : List ℕ) → scheme_of (take 24 l) ≡ scheme_of l
-scheme_first = first_bytes scheme_of first.Other scheme_long
+scheme_first = first_bytes scheme_of None scheme_long

@@ -1,9 +1,7 @@
 -- Plain decimals up to 4294967295 with no leading zero (document 01, "A drill to prove"). Bytes are their numbers in ASCII: 48 is `0`, 57 is
 -- `9`. Assumes nothing.
-use Rattle.std.specs.Prelude.{Bool, true, false, not, ◌&&◌, cond, List, [], ◌∷◌, ℕ, ◌+◌, ◌*◌, ◌-◌, eqb, ltb, leb, length}
+use Rattle.std.specs.Prelude.{Bool, true, false, not, ◌&&◌, cond, List, [], ◌∷◌, Option, Some, None, ℕ, ◌+◌, ◌*◌, ◌-◌, eqb, ltb, leb, length}
 use Rattle.ring.specs.Most.{top_number}
-use Rattle.line.specs.declared.Number.{Number}
-use Rattle.line.specs.declared.Number.TheVariants.{Is, Not}
 
 unfoldable pub digit : ℕ → Bool
 digit b = leb 48 b && leb b 57
@@ -26,14 +24,11 @@ leading_zero (b ∷ c ∷ more) = eqb b 48
 unfoldable pub plain : List ℕ → Bool
 plain word = ltb 0 (length word) && (all_digits word && (not (leading_zero word) && leb (value 0 word) top_number))
 
-unfoldable pub decimal_of : List ℕ → Number
-decimal_of word = cond (plain word) (Is (value 0 word)) Not
+unfoldable pub decimal_of : List ℕ → Option ℕ
+decimal_of word = cond (plain word) (Some (value 0 word)) None
 
--- ---- digit by digit, as a loop goes: 4294967296 stands for what is no number
+-- ---- digits alone, as a loop goes over them
 
-unfoldable pub with_byte : ℕ → ℕ → ℕ
-with_byte v b = cond (digit b) (cond (ltb (v * 10 + (b - 48)) 4294967296) (v * 10 + (b - 48)) 4294967296) 4294967296
-
-unfoldable pub with_bytes : ℕ → List ℕ → ℕ
-with_bytes v [] = v
-with_bytes v (b ∷ bs) = with_bytes (with_byte v b) bs
+-- the number v with these bytes behind it, where they are digits and it is no greater
+unfoldable pub digits_of : ℕ → List ℕ → Option ℕ
+digits_of v word = cond (all_digits word && leb (value v word) top_number) (Some (value v word)) None

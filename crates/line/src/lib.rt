@@ -1,199 +1,121 @@
 // What a line of input means (document 01, "A drill to prove"; docs/DECISIONS.md, reading 9).
 #![tactic(auto)]
 
-ghost use Rattle.std.specs.Prelude.{◌≡◌, [], ◌∷◌, ◌≤◌, length};
-ghost use Rattle.line.specs.Decimal.{digit, with_byte, with_bytes, leading_zero, decimal_of};
-ghost use Rattle.line.specs.Line.{space_at, words, with_one, with_two, said, meaning_of, scheme_of, known_or};
-
-// The greatest number and one more, which stands for what is no number.
-const NONE: u64 = ring::NUMBERS;
-
-// A plain decimal, or none.
-#[derive(Clone, Copy)]
-pub enum Number {
-    Is(u32),
-    Not,
-}
-
-#[derive(Clone, Copy)]
-pub enum Line {
-    Call(rule::Call),
-    Other,
-}
-
-// A first line, which names the scheme.
-#[derive(Clone, Copy)]
-pub enum First {
-    Scheme(u32),
-    Other,
-}
+ghost use Rattle.std.specs.Prelude.{◌≡◌, ◌+◌, ◌*◌, ◌<◌, [], ◌∷◌, Some, SomeIff, IfSome, length};
+ghost use Rattle.std.specs.List.{position_from};
+ghost use Rattle.line.specs.Decimal.{leading_zero, digits_of, decimal_of};
+ghost use Rattle.line.specs.Line.{is_space, words, with_one, with_two, said, meaning_of, scheme_of};
 
 // ---- decimals
 
-fn digit(b: u8) -> bool
-    ensures { result ≡ digit b }
+// The number with one digit more behind it, where it is no greater than the greatest.
+fn with_digit(value: u32, digit: u8) -> Option<u32>
+    ensures { SomeIff result (value * 10 + digit < 4294967296) (value * 10 + digit) }
 {
-    if b < b'0' {
-        return false;
-    }
-    b <= b'9'
-}
-
-// The number v with one byte more behind it.
-fn with_byte(v: u64, b: u8) -> u64
-    requires { v ≤ 4294967296 }
-    ensures { result ≡ with_byte v b }
-{
-    if !digit(b) {
-        return NONE;
-    }
-    let w = v * 10 + ((b - b'0') as u64);
-    if w < NONE { w } else { NONE }
+    value.checked_mul(10)?.checked_add(u32::from(digit))
 }
 
 // The number that these bytes are, leading zeros taken.
-fn value(word: &[u8]) -> u64
-    ensures { result ≡ with_bytes 0 word.now }
+fn value(word: &[u8]) -> Option<u32>
+    ensures { result ≡ digits_of 0 word.now }
 {
-    let mut v: u64 = 0;
-    let mut i = 0;
-    while i < word.len() {
-        v = with_byte(v, word[i]);
-        i += 1;
+    let mut value: u32 = 0;
+    for byte in word {
+        if !byte.is_ascii_digit() {
+            return None;
+        }
+        value = with_digit(value, *byte - b'0')?;
     }
-    v
+    Some(value)
 }
 
+// A zero in front of others.
+#[tactic(auto, using(crate::proofs::Decimals::leading_short, crate::proofs::Decimals::leading_long))]
 fn leading_zero(word: &[u8]) -> bool
     ensures { result ≡ leading_zero word.now }
 {
-    if word.len() < 2 {
-        return false;
-    }
-    word[0] == b'0'
+    matches!(word, [b'0', _, ..])
 }
 
 // The plain decimal that a word is.
-fn decimal(word: &[u8]) -> Number
+#[tactic(auto, using(crate::proofs::Decimals::decimal_empty, crate::proofs::Decimals::decimal_zero, crate::proofs::Decimals::decimal_digits))]
+fn decimal(word: &[u8]) -> Option<u32>
     ensures { result ≡ decimal_of word.now }
 {
-    if word.len() == 0 {
-        return Number::Not;
+    if word.is_empty() || leading_zero(word) {
+        return None;
     }
-    if leading_zero(word) {
-        return Number::Not;
-    }
-    let v = value(word);
-    if v < NONE {
-        Number::Is(v as u32)
-    } else {
-        Number::Not
-    }
+    value(word)
 }
 
 // ---- calls
 
 // A letter with one number behind it.
-fn with_one(letter: u8, n: Number) -> Line
-    ensures { result ≡ with_one letter n }
+#[tactic(auto, unfolding(crate::specs::Line::with_one))]
+fn with_one(letter: u8, n: u32) -> Option<rule::Call>
+    ensures { result ≡ with_one letter (Some n) }
 {
-    match n {
-        Number::Is(x) => match letter {
-            b'r' => Line::Call(rule::Call::Remove(ring::RelayNumber(x))),
-            b'e' => Line::Call(rule::Call::Enrol(ring::TabletNumber(x))),
-            b'w' => Line::Call(rule::Call::Withdraw(ring::TabletNumber(x))),
-            b'f' => Line::Call(rule::Call::Find(ring::TabletNumber(x))),
-            _ => Line::Other,
-        },
-        Number::Not => Line::Other,
+    match letter {
+        b'r' => Some(rule::Call::Remove(ring::RelayNumber(n))),
+        b'e' => Some(rule::Call::Enrol(ring::TabletNumber(n))),
+        b'w' => Some(rule::Call::Withdraw(ring::TabletNumber(n))),
+        b'f' => Some(rule::Call::Find(ring::TabletNumber(n))),
+        _ => None,
     }
 }
 
 // A letter with two numbers behind it.
-fn with_two(letter: u8, n: Number, limit: Number) -> Line
-    ensures { result ≡ with_two letter n limit }
+#[tactic(auto, unfolding(crate::specs::Line::with_two))]
+fn with_two(letter: u8, n: u32, limit: u32) -> Option<rule::Call>
+    ensures { result ≡ with_two letter (Some n) (Some limit) }
 {
-    match n {
-        Number::Is(x) => match limit {
-            Number::Is(y) => match letter {
-                b'a' => Line::Call(rule::Call::Add(ring::RelayNumber(x), y)),
-                b's' => Line::Call(rule::Call::Set(ring::RelayNumber(x), y)),
-                _ => Line::Other,
-            },
-            Number::Not => Line::Other,
-        },
-        Number::Not => Line::Other,
+    match letter {
+        b'a' => Some(rule::Call::Add(ring::RelayNumber(n), limit)),
+        b's' => Some(rule::Call::Set(ring::RelayNumber(n), limit)),
+        _ => None,
     }
 }
 
-// Where the first space stands, or the length where there is none.
-fn space_at(rest: &[u8]) -> usize
-    ensures value { result ≡ space_at rest.now }
-    ensures within { result ≤ length rest.now }
+// Where the first space stands.
+fn space_at(rest: &[u8]) -> Option<usize>
+    ensures value { result ≡ position_from is_space 0 rest.now }
+    ensures within { IfSome result (λ end. end < length rest.now) }
 {
-    let mut i = 0;
-    while i < rest.len() {
-        if rest[i] == b' ' {
-            break;
-        }
-        i += 1;
-    }
-    i
+    rest.iter().position(|byte| *byte == b' ')
 }
 
 // A letter with what stands behind it and its space.
-fn with_rest(letter: u8, rest: &[u8]) -> Line
+fn with_rest(letter: u8, rest: &[u8]) -> Option<rule::Call>
     ensures { result ≡ said ((letter ∷ []) ∷ words rest.now) }
 {
-    let end = space_at(rest);
-    let first = decimal(&rest[0..end]);
-    if end == rest.len() {
-        return with_one(letter, first);
-    }
-    let next = end + 1;
-    let second = decimal(&rest[next..]);
+    let Some(end) = space_at(rest) else {
+        return with_one(letter, decimal(rest)?);
+    };
+    let first = decimal(&rest[..end])?;
+    let second = decimal(&rest[end + 1..])?;
     with_two(letter, first, second)
 }
 
-// What a line means.
-pub fn meaning(line: &[u8]) -> Line
+// The call that a line means.
+pub fn meaning(line: &[u8]) -> Option<rule::Call>
     ensures { result ≡ meaning_of line.now }
 {
-    if line.len() < 2 {
-        return Line::Other;
+    match line {
+        [letter, b' ', rest @ ..] => with_rest(*letter, rest),
+        _ => None,
     }
-    if line[1] != b' ' {
-        return Line::Other;
-    }
-    with_rest(line[0], &line[2..])
 }
 
 // ---- the first line
 
-fn known_or_other(n: Number) -> First
-    ensures { result ≡ known_or n }
-{
-    match n {
-        Number::Is(scheme) => {
-            if ring::scheme_known(scheme) {
-                First::Scheme(scheme)
-            } else {
-                First::Other
-            }
-        }
-        Number::Not => First::Other,
-    }
-}
-
 // The scheme that a line names.
-pub fn scheme_of(line: &[u8]) -> First
+pub fn scheme_of(line: &[u8]) -> Option<u32>
     ensures { result ≡ scheme_of line.now }
 {
-    if line.len() < 7 {
-        return First::Other;
+    let scheme = decimal(line.strip_prefix(b"scheme ")?)?;
+    if ring::scheme_known(scheme) {
+        Some(scheme)
+    } else {
+        None
     }
-    if !check::same(&line[0..7], b"scheme ") {
-        return First::Other;
-    }
-    known_or_other(decimal(&line[7..]))
 }

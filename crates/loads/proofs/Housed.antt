@@ -20,32 +20,32 @@ use Rattle.call_start.specs.Start.{Start}
 use Rattle.call_start.proofs.Refusals.{start_rises, start_ring}
 use Rattle.loads.specs.Loads.{place_of, Housed}
 
-module _ {s : ℕ} {rs ts : List ℕ} {n m : ℕ} {v : Survey} (b : Start s rs ts n m v) where
-  rises : Rises (positions s) rs ts n m
+module _ {s : ℕ} {rs ts : List ℕ} {v : Survey} (b : Start s rs ts v.n v.m v) where
+  rises : Rises (positions s) rs ts v.n v.m
   rises = start_rises b
 
-  within_limit : (i : ℕ) → i < n → load (tablets_in ts m) (relay_number rs i) ≤ relay_limit rs i
+  within_limit : (i : ℕ) → i < v.n → load (tablets_in ts v.m) (relay_number rs i) ≤ relay_limit rs i
   within_limit i l =
-      let e : held (relays_in rs n) (relay_number rs i) ≡ relay_limit rs i = held_places (relay_limit rs)
+      let e : held (relays_in rs v.n) (relay_number rs i) ≡ relay_limit rs i = held_places (relay_limit rs)
       rises.relays i l in
       omega (arith, rw (start_ring b) at (right_loads (positions s) (ring_of rs ts) rises.ring (relay_number rs i)))
 
-  room_left : (i : ℕ) → i < n → load (tablets_in ts m) (relay_number rs i) + get_or v.room i 0 ≡ relay_limit rs i
+  room_left : (i : ℕ) → i < v.n → load (tablets_in ts v.m) (relay_number rs i) + get_or v.room i 0 ≡ relay_limit rs i
   room_left i l =
       omega (
         arith,
         within_limit i l,
         ap (λ (z : List ℕ). get_or z i 0) b.surveyed.left,
-        right_room rises m
-            (le_refl m) i l,
+        right_room rises v.m
+            (le_refl v.m) i l,
       )
 
-  all_housed : loads (relays_in rs n) (tablets_in ts m) ≡ m
+  all_housed : loads (relays_in rs v.n) (tablets_in ts v.m) ≡ v.m
   all_housed =
       (rw (start_ring b) at (loads_length (positions s) (ring_of rs ts) rises.ring))
-      ∙ length_places (tablet_number ts) (tablet_relay ts) m
+      ∙ length_places (tablet_number ts) (tablet_relay ts) v.m
 
-  pub start_housed : Housed rs ts n m v.keys v.room v.slot
+  pub start_housed : Housed rs ts v
   unfolding place_of
   start_housed =
       record {

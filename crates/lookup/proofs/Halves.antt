@@ -1,55 +1,46 @@
--- A search by halves over rising numbers.
---   halves_start, halves_low, halves_high, halves_end    what is known of the numbers outside the stretch that is left
+-- What a search by halves finds among rising numbers.
+--   searched         where the search ends
 -- Assumes nothing.
-use Prim.Native.Nat.{ℕ, ◌+◌, ◌≤◌, ◌<◌}
-use native.Mathlib.Omega.{arith}
-use borrow.Author.Tests.{ltb-true, ltb-false}
-use lib.Dec.{ltb}
-use mathlib.Core.Path.{◌≡◌, ap}
-use Rattle.ring.proofs.Tests.{split}
+use Rattle.std.proofs.Common.{◌≡◌, ℕ, ◌<◌, ◌≤◌, List, [], length, get_or, sym, ap, ◌∙◌, arith}
+use Rattle.std.specs.Prelude.{Result, MatchResult, true, false}
+use Rattle.std.specs.declared.result.Result.TheVariants.{Ok, Err}
+use Rattle.std.specs.List.Sorted.{IsSearchInRange, IsBinarySearchResult, IsNonDecreasingBy}
+use Rattle.std.specs.Ordering.{nat_cmp, ordering_index}
+use Rattle.std.proofs.lemmas.Cmp.{ranked}
+use Rattle.std.proofs.lemmas.List.Sorted.{IsNonDecreasingBy-from_default}
+use Rattle.std.proofs.lemmas.Bool.Decides.{nat_tests}
 use Rattle.meaning.specs.Ascending.{Ascending}
-use Rattle.lookup.specs.Spot.{Spot}
+use Rattle.tables.specs.Table.{number_in, beside_in}
+use Rattle.lookup.specs.Spot.{Spot, Sought}
+use Rattle.lookup.proofs.There.{is_there, not_there}
 
--- the place of x is not before `low`, nor behind `high`
-pub record Halves (number : ℕ → ℕ) (n x low high : ℕ) : Type 0 where
-  pub order : low ≤ high
-  pub within : high ≤ n
-  pub below : (i : ℕ) → i < low → number i < x
-  pub from : (i : ℕ) → high ≤ i → i < n → x ≤ number i
+module _ (t : List ℕ) (n : ℕ) (a : Ascending (number_in t) n) (x : ℕ) (xs : List (List ℕ)) (len : length xs ≡ n)
+    (reads : (i : ℕ) (d : List ℕ) → i < n → get_or (get_or xs i d) 0 0 ≡ number_in t i) where
+  rise : IsNonDecreasingBy (λ (place : List ℕ). ordering_index (nat_cmp (get_or place 0 0) x)) xs
+  rise = IsNonDecreasingBy-from_default (λ (place : List ℕ). ordering_index (nat_cmp (get_or place 0 0) x)) xs [] (λ i j h l.
+      let k : j < n = omega (arith, len) in
+      let up : number_in t i ≤ number_in t j = grind (arith, a.up i j, λ (same : i ≡ j). ap (number_in t) same) in
+      rw (reads i [] (omega arith), reads j [] k) (grind (arith, nat_tests)))
 
-pub halves_start : (number : ℕ → ℕ) (n x : ℕ) → Halves number n x 0 n
-halves_start number n x =
-    record {
-      order = omega arith;
-      within = omega arith;
-      below = λ i h. absurd (omega arith);
-      from = λ i h k. absurd
-          (omega arith);
-    }
-
-module _ {number : ℕ → ℕ} {n x low high : ℕ} (s : Halves number n x low high) (a : Ascending number n) where
-  pub halves_low : (mid : ℕ) → mid < high → number mid < x → Halves number n x (mid + 1) high
-  halves_low mid h l =
-      record {
-        order = omega arith;
-        within = s.within;
-        below = λ i k. split (ltb i mid)
-            (λ u. omega (arith, a.up i mid (ltb-true i mid u) (omega (arith, s.within))))
-            (λ u. let e : i ≡ mid = omega (arith, ltb-false i mid u) in omega (arith, ap number e));
-        from = s.from;
-      }
-
-  pub halves_high : (mid : ℕ) → low ≤ mid → mid < high → x ≤ number mid → Halves number n x low mid
-  halves_high mid g h l =
-      record {
-        order = g;
-        within = omega (arith, s.within);
-        below = s.below;
-        from = λ i k m. split (ltb mid i)
-            (λ u. omega (arith, a.up mid i (ltb-true mid i u) m))
-            (λ u. let e : i ≡ mid = omega (arith, ltb-false mid i u) in omega (arith, ap number e));
-      }
-
-pub halves_end : {number : ℕ → ℕ} {n x low high : ℕ} → Halves number n x low high → high ≤ low → Spot number n x low
-halves_end s h =
-    record { within = omega (arith, s.order, s.within); below = s.below; from = λ i k l. s.from i (omega arith) l }
+  -- and among the others none is x
+  pub searched : (r : Result ℕ ℕ) → IsSearchInRange r (length xs)
+      → IsBinarySearchResult (λ (place : List ℕ). nat_cmp (get_or place 0 0) x) xs r
+      → MatchResult r (λ at. Sought t n x true at) (λ at. Sought t n x false at)
+  searched (Ok at) h e =
+      let k : at < n = omega (arith, len) in
+      let here : number_in t at ≡ x = sym (reads at [] k) ∙ ranked _ x _ (sym (e [])) in
+      let spot : Spot (number_in t) n x at = record {
+        within = omega arith;
+        below = λ i l. omega (arith, a.up i at l k);
+        from = λ i l m. grind (arith, a.up at i, λ (same : at ≡ i). ap (number_in t) same);
+      } in
+      record { spot = spot; there = is_there (beside_in t) a spot k here }
+  searched (Err at) h parted =
+      let above : (i : ℕ) → at ≤ i → i < n → x < number_in t i
+      = λ i l k. omega (arith, reads i [] k, ranked _ x _ (sym ((parted rise).1 i [] l (omega (arith, len))))) in
+      let spot : Spot (number_in t) n x at = record {
+        within = omega (arith, len);
+        below = λ i l. omega (arith, reads i [] (omega (arith, len)), ranked _ x _ (sym ((parted rise).0 i [] (omega arith) l)));
+        from = λ i l k. omega (arith, above i l k);
+      } in
+      record { spot = spot; there = not_there (beside_in t) a spot above }

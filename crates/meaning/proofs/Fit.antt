@@ -13,21 +13,21 @@ use Rattle.ring.specs.Most.{most_relays, most_tablets}
 use Rattle.ring.specs.Scheme.{positions}
 use Rattle.ring.proofs.Tests.{and_left, and_right}
 use Rattle.rule.specs.Rule.{right}
-use Rattle.tables.specs.Table.{relay_places, relay_number, relay_limit, relay_whole, tablet_places, tablet_number, tablet_relay, tablet_whole}
-use Rattle.tables.specs.Shape.{relays_used, tablets_used, relay_fits, tablet_fits}
+use Rattle.tables.specs.Table.{relay_places, relay_number, relay_limit, is_whole, tablet_places, tablet_number, tablet_relay}
+use Rattle.tables.specs.Shape.{relays_used, tablets_used, relay_fits, tablet_fits, fits_in}
 use Rattle.meaning.specs.Meaning.{ring_of, rest_unused, fit_tables, tables_right}
 
-pub whole_relays : (rs : List ℕ) → relay_fits rs ≡ true → (relay_whole rs ≡ true) × (relay_places rs ≤ most_relays)
-unfolding relay_fits
+pub whole_relays : (rs : List ℕ) → relay_fits rs ≡ true → (is_whole rs ≡ true) × (relay_places rs ≤ most_relays)
+unfolding fits_in
 whole_relays rs e =
-    let w : Bool = relay_whole rs in
+    let w : Bool = is_whole rs in
     let f : Bool = leb (relay_places rs) most_relays in
     (and_left w f e, leb-true (relay_places rs) most_relays (and_right w f e))
 
-pub whole_tablets : (ts : List ℕ) → tablet_fits ts ≡ true → (tablet_whole ts ≡ true) × (tablet_places ts ≤ most_tablets)
-unfolding tablet_fits
+pub whole_tablets : (ts : List ℕ) → tablet_fits ts ≡ true → (is_whole ts ≡ true) × (tablet_places ts ≤ most_tablets)
+unfolding fits_in
 whole_tablets ts e =
-    let w : Bool = tablet_whole ts in
+    let w : Bool = is_whole ts in
     let f : Bool = leb (tablet_places ts) most_tablets in
     (and_left w f e, leb-true (tablet_places ts) most_tablets (and_right w f e))
 

@@ -20,8 +20,8 @@ use Rattle.rule.specs.Entry.{Entry, load}
 use Rattle.rule.specs.Rule as Rule
 use Rattle.rule.specs.Facts.{Right}
 use Rattle.rule.proofs.Right as Right
-use Rattle.tables.specs.Table.{relay_places, relay_number, relay_limit, relay_whole, tablet_places, tablet_number, tablet_relay, tablet_whole}
-use Rattle.tables.specs.Shape.{relays_used, tablets_used, relay_fits, tablet_fits, relay_shape, tablet_shape, shape}
+use Rattle.tables.specs.Table.{relay_places, relay_number, relay_limit, is_whole, tablet_places, tablet_number, tablet_relay}
+use Rattle.tables.specs.Shape.{relays_used, tablets_used, relay_fits, tablet_fits, shape, table_shape, used_in}
 use Rattle.tables.specs.Placement as Lent
 use Rattle.tables.proofs.Shaped.{used_most}
 use Rattle.meaning.specs.Meaning.{tablets_in, ring_of, fit_tables, tables_right, Words}
@@ -55,18 +55,18 @@ module _ (p : Positions) (rs ts : List ℕ) where
   m = tablets_used ts
 
   n_most : n ≤ relay_places rs
-  unfolding relays_used
+  unfolding used_in
   n_most = used_most (relay_number rs) (relay_places rs)
 
   m_most : m ≤ tablet_places ts
-  unfolding tablets_used
+  unfolding used_in
   m_most = used_most (tablet_number ts) (tablet_places ts)
 
   facts_few : Facts p rs ts n m → n ≤ most_relays
   facts_few f = omega (arith, n_most, (whole_relays rs f.relays_fit).1)
 
   facts_lent : Facts p rs ts n m → Lent.right p rs ts ≡ true
-  unfolding Lent.right relay_shape tablet_shape
+  unfolding Lent.right table_shape
   facts_lent f =
       rw (
         f.relays_fit,
@@ -100,8 +100,8 @@ module _ (p : Positions) (rs ts : List ℕ) where
 
   facts_rises : Facts p rs ts n m → Rises p rs ts n m
   facts_rises f =
-      let fr : (relay_whole rs ≡ true) × (relay_places rs ≤ most_relays) = whole_relays rs f.relays_fit in
-      let ft : (tablet_whole ts ≡ true) × (tablet_places ts ≤ most_tablets) = whole_tablets ts f.tablets_fit in
+      let fr : (is_whole rs ≡ true) × (relay_places rs ≤ most_relays) = whole_relays rs f.relays_fit in
+      let ft : (is_whole ts ≡ true) × (tablet_places ts ≤ most_tablets) = whole_tablets ts f.tablets_fit in
       record {
         relays_fit = omega (arith, n_most);
         tablets_fit = omega (arith, m_most);
@@ -122,7 +122,7 @@ module _ (p : Positions) (rs ts : List ℕ) where
 
   module _ (wr : Words rs) (wt : Words ts) where
     lent_facts : Lent.right p rs ts ≡ true → Facts p rs ts n m
-    unfolding Lent.right relay_shape tablet_shape
+    unfolding Lent.right table_shape
     lent_facts e =
         let k₁ : Bool = relay_fits rs in
         let k₂ : Bool = shape most_limit (relay_number rs) (relay_limit rs) n (relay_places rs) in

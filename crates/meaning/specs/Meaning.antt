@@ -8,7 +8,7 @@ use Rattle.rule.specs.Entry.{Entry, entry}
 use Rattle.rule.specs.Rule.{Ring, right}
 use Rattle.rule.specs.Refusals.{Bar, bar, first_bar}
 use Rattle.rule.specs.Calls.{Lent}
-use Rattle.tables.specs.Table.{relay_places, relay_number, relay_limit, tablet_places, tablet_number, tablet_relay}
+use Rattle.tables.specs.Table.{number_in, beside_in, relay_places, relay_number, relay_limit, tablet_places, tablet_number, tablet_relay}
 use Rattle.tables.specs.Shape.{all, unused, relays_used, tablets_used, relay_fits, tablet_fits}
 
 -- the first n places of a table as entries: the number there, and what stands beside it
@@ -16,11 +16,14 @@ unfoldable pub places : (ℕ → ℕ) → (ℕ → ℕ) → ℕ → List Entry
 places number beside zero = []
 places number beside (suc i) = places number beside i ++ (entry (number i) (beside i) ∷ [])
 
+abbrev pub entries_in : List ℕ → ℕ → List Entry
+entries_in t n = places (number_in t) (beside_in t) n
+
 abbrev pub relays_in : List ℕ → ℕ → List Entry
-relays_in rs n = places (relay_number rs) (relay_limit rs) n
+relays_in = entries_in
 
 abbrev pub tablets_in : List ℕ → ℕ → List Entry
-tablets_in ts m = places (tablet_number ts) (tablet_relay ts) m
+tablets_in = entries_in
 
 -- entries come first, so they are as many of the first places as have a number
 unfoldable pub ring_of : List ℕ → List ℕ → Ring

@@ -1,6 +1,5 @@
 -- The slot that a position comes to first, one slot after the other.
 --   behind_is, behind_from     that a slot does not stand ahead of another, in numbers
---   sooner_apart               unequal distances
 --   scanned_one, scanned_closer, scanned_stays, scanned_end    the first of one slot, of one more, which is nearer or not, and of all
 -- Assumes nothing.
 use mathlib.Core.Bool.{false}
@@ -9,13 +8,10 @@ use mathlib.Core.Path.{◌≡◌, sym, ◌∙◌}
 use Prim.Native.Nat.{ℕ, ◌+◌, ◌-◌, ◌*◌, ◌^◌, ◌≤◌, ◌<◌}
 use native.Mathlib.Decide.{dec_lt}
 use native.Mathlib.Omega.{arith}
-use borrow.Author.Tests.{ltb-true, ltb-false, le-ltb}
-use lib.Dec.{ltb}
+use borrow.Author.Tests.{ltb-false, le-ltb}
 use Rattle.ring.specs.Most.{most_relays}
-use Rattle.ring.specs.Scheme.{Positions}
 use Rattle.ring.specs.Clockwise.{distance, sooner, key}
-use Rattle.ring.proofs.Order.{sooner_near, sooner_far, sooner_key}
-use Rattle.ring.proofs.Tests.{split}
+use Rattle.ring.proofs.Order.{sooner_key}
 use Rattle.nearest.specs.Nearest.{in_slots, Nearest}
 
 module _ (keys : List ℕ) (t k l : ℕ) (hk : k < most_relays) (hl : l < most_relays) where
@@ -32,14 +28,6 @@ module _ (keys : List ℕ) (t k l : ℕ) (hk : k < most_relays) (hl : l < most_r
   behind_from h =
       sooner_key (in_slots keys) t l k (omega arith) (omega arith)
       ∙ le-ltb (key (in_slots keys) t l) (key (in_slots keys) t k) h
-
--- at unequal distances d and e
-pub sooner_apart : (p : Positions) (t r q : ℕ) {d e : ℕ} → d ≡ distance p t r → e ≡ distance p t q → (d ≡ e → ⊥)
-    → ltb d e ≡ sooner p t r q
-sooner_apart p t r q {d} {e} dr eq ne =
-    split (ltb d e)
-    (λ s. s ∙ sym (sooner_near p t r q (omega (arith, ltb-true d e s))))
-    (λ s. s ∙ sym (sooner_far p t r q (omega (arith, ltb-false d e s))))
 
 -- of the first k of n slots t comes to `first` first, and `least` is how far that is; the first slot is looked at even where there is none
 pub record Scanned (keys : List ℕ) (n t first least k : ℕ) : Type 0 where

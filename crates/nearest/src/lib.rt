@@ -14,6 +14,7 @@ fn position_of(key: u64) -> ring::Position
 }
 
 // How far clockwise the relay at slot k is from position p.
+#[tactic(auto, unfolding(ring::specs::Clockwise::distance))]
 fn away(keys: &[u64; ring::MOST_RELAYS], k: usize, p: ring::Position) -> u32
     requires { k < most_relays }
     ensures { result ≡ distance (in_slots keys.now) p.0 k }
@@ -22,13 +23,12 @@ fn away(keys: &[u64; ring::MOST_RELAYS], k: usize, p: ring::Position) -> u32
 }
 
 // Does p come to slot k ahead of slot l?
+#[tactic(auto, unfolding(ring::specs::Clockwise::sooner))]
 pub fn sooner(keys: &[u64; ring::MOST_RELAYS], k: usize, l: usize, p: ring::Position) -> bool
     requires { (k < most_relays) × (l < most_relays) }
     ensures { result ≡ sooner (in_slots keys.now) p.0 k l }
 {
-    let one = away(keys, k, p);
-    let other = away(keys, l, p);
-    if one == other { k < l } else { one < other }
+    (away(keys, k, p), k) < (away(keys, l, p), l)
 }
 
 // The home of p: of n slots the one that it comes to first, and 0 where there is none.
@@ -38,14 +38,12 @@ pub fn home(keys: &[u64; ring::MOST_RELAYS], n: usize, p: ring::Position) -> usi
 {
     let mut first: usize = 0;
     let mut least = away(keys, 0, p);
-    let mut k: usize = 1;
-    while k < n {
+    for k in 1..n {
         let d = away(keys, k, p);
         if d < least {
             first = k;
             least = d;
         }
-        k += 1;
     }
     first
 }

@@ -2,146 +2,95 @@
 // lent is written here.
 #![tactic(auto)]
 
-ghost use Rattle.std.specs.Prelude.{◌≡◌, ◌&&◌, List, ltb, ℕ, ◌/◌, ◌≤◌, length};
+ghost use Rattle.std.specs.Prelude.{◌≡◌, false, List, ℕ, ◌/◌, ◌<◌, ◌≤◌, length, MatchOption, MatchResult};
 ghost use Rattle.ring.specs.Most.{most_relays};
 ghost use Rattle.ring.specs.Scheme.{positions};
-ghost use Rattle.row.specs.Row.{Row};
+ghost use Rattle.rule.specs.declared.Refusal.TheVariants.{Done};
+ghost use Rattle.rule.specs.Refusals.{is_done};
+ghost use Rattle.tables.specs.Table.{tablet_places, tablet_number};
+ghost use Rattle.row.specs.Row.{Row, slot_room};
+ghost use Rattle.meaning.specs.Ascending.{Ascending};
+ghost use Rattle.lookup.specs.Spot.{Sought, there_in};
 ghost use Rattle.newcomer.specs.Newcomer.{newcomer_refusal, Seeks, Prepared};
 
-fn newcomer_refusal(t: ring::TabletNumber, there: bool, places: usize, m: usize) -> rule::Refusal
-    ensures { result ≡ newcomer_refusal t.0 there places m }
+// The place that a newcomer would have among the m tablets, or which of the refusals 3, 6 and 7 applies.
+fn free_place(tablets: &[u32], m: usize, t: ring::TabletNumber) -> Result<usize, rule::Refusal>
+    requires { (m ≤ tablet_places tablets.now) × Ascending (tablet_number tablets.now) m }
+    ensures { MatchResult result
+        (λ at. (newcomer_refusal t.0 (there_in tablets.now m t.0) (tablet_places tablets.now) m ≡ Done)
+        × Sought tablets.now m t.0 false at)
+        (λ why. (newcomer_refusal t.0 (there_in tablets.now m t.0) (tablet_places tablets.now) m ≡ why)
+        × (is_done why ≡ false)) }
 {
     if t.0 == 0 {
-        return rule::Refusal::NumberZero;
+        return Err(rule::Refusal::NumberZero);
     }
-    if there {
-        return rule::Refusal::ThereAlready;
+    let Err(at) = lookup::spot(tablets, m, t.0) else {
+        return Err(rule::Refusal::ThereAlready);
+    };
+    if tables::places(tablets) <= m {
+        return Err(rule::Refusal::NoUnusedPlace);
     }
-    if places <= m {
-        return rule::Refusal::NoUnusedPlace;
-    }
-    rule::Refusal::Done
+    Ok(at)
 }
 
 // ---- where the walk begins and ends
 
+// The slot of the newcomer's home, and the first slot with room from there.
 #[derive(Drop)]
-struct Sought {
+struct Walk {
     home: usize,
     stop: usize,
-    opens: bool,
 }
 
-fn seek(
-    scheme: u32,
-    n: usize,
-    keys: &[u64; ring::MOST_RELAYS],
-    room: &[u32; ring::MOST_RELAYS],
-    next: &[u8; ring::MOST_RELAYS],
-    t: ring::TabletNumber,
-) -> Sought
-    requires { (n ≤ most_relays) × Row keys.now room.now n 0 next.now }
-    ensures { Seeks (positions scheme) n keys.now room.now t.0
-        result.home result.stop result.opens }
+// The newcomer's walk, if any relay has room.
+fn seek(scheme: u32, survey: &survey::Survey, t: ring::TabletNumber) -> Option<Walk>
+    requires { (survey.now.n ≤ most_relays) × Row survey.now.keys survey.now.room survey.now.n 0 survey.now.next }
+    ensures { MatchOption result
+        ((k : ℕ) → k < survey.now.n → slot_room survey.now.keys survey.now.room k ≡ 0)
+        (λ w. Seeks (positions scheme) survey.now t.0 w.home w.stop) }
 {
     let p = ring::tablet_at(scheme, t);
-    let home = nearest::home(keys, n, p);
-    let stop = row::led_to(next, home);
-    let i = order::slot_relay(keys, stop);
-    Sought {
-        home: home,
-        stop: stop,
-        opens: opens(n, room[i]),
+    let home = nearest::home(&survey.keys, survey.n, p);
+    let stop = row::led_to(&survey.next, home);
+    let i = order::slot_relay(&survey.keys, stop);
+    if 0 < survey.n && 0 < survey.room[i] {
+        Some(Walk { home, stop })
+    } else {
+        None
     }
-}
-
-fn opens(n: usize, room: u32) -> bool
-    ensures { result ≡ (ltb 0 n && ltb 0 room) }
-{
-    if n == 0 { false } else { 0 < room }
 }
 
 // ---- what the enrolment comes to
 
-// The refusal, or the newcomer's place in the table and everybody who sits down.
+// How many tablets there are, the newcomer's place among them, and everybody who sits down.
 #[derive(Drop)]
 pub struct Enrolment {
-    pub refusal: rule::Refusal,
     pub m: usize,
     pub at: usize,
     pub chain: chain::Chain,
 }
 
-// A refusal, with nobody to seat.
-fn no_enrolment(refusal: rule::Refusal) -> Enrolment
-    ensures { result.refusal ≡ refusal }
-{
-    Enrolment {
-        refusal: refusal,
-        m: 0,
-        at: 0,
-        chain: chain::Chain {
-            others: 0,
-            steps: 0,
-            place: [0u16; ring::MOST_RELAYS],
-            seat: [0u8; ring::MOST_RELAYS],
-        },
-    }
-}
-
-// For a move list of so many places.
+// The enrolment or its refusal, for a move list of so many places.
 pub fn prepare(
     scheme: u32,
     relays: &[u32],
     tablets: &[u32],
     places: usize,
     t: ring::TabletNumber,
-) -> Enrolment
+) -> Result<Enrolment, rule::Refusal>
     ensures { (ms : List ℕ) → places ≡ length ms / 3
         → Prepared scheme relays.now tablets.now ms t result }
 {
-    let l = call_start::look(scheme, relays, tablets);
-    let first = l.refusal;
-    let done = rule::done(first);
-    if !done {
-        return no_enrolment(first);
-    }
-    let n = l.n;
-    let m = l.m;
-    let at = lookup::tablet_spot(tablets, m, t);
-    let there = lookup::tablet_there(tablets, m, at, t);
-    let bar = newcomer_refusal(t, there, tables::tablet_places(tablets), m);
-    let done = rule::done(bar);
-    if !done {
-        return no_enrolment(bar);
-    }
-    let s = l.survey;
-    let keys = s.keys;
-    let room = s.room;
-    let next = s.next;
-    let last = s.last;
-    let sought = seek(scheme, n, &keys, &room, &next, t);
-    if !sought.opens {
-        return no_enrolment(rule::Refusal::LimitsTooSmall);
-    }
-    let chain = chain::turn(
-        relays,
-        tablets,
-        n,
-        m,
-        &keys,
-        &last,
-        sought.home,
-        sought.stop,
-        t,
-    );
+    let survey = call_start::look(scheme, relays, tablets)?;
+    let m = survey.m;
+    let at = free_place(tablets, m, t)?;
+    let Some(walk) = seek(scheme, &survey, t) else {
+        return Err(rule::Refusal::LimitsTooSmall);
+    };
+    let chain = chain::turn(relays, tablets, &survey, walk.home, walk.stop, t);
     if places < chain.others {
-        return no_enrolment(rule::Refusal::MoveListTooShort);
+        return Err(rule::Refusal::MoveListTooShort);
     }
-    Enrolment {
-        refusal: rule::Refusal::Done,
-        m: m,
-        at: at,
-        chain: chain,
-    }
+    Ok(Enrolment { m, at, chain })
 }

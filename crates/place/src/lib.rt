@@ -3,38 +3,27 @@
 #![tactic(auto)]
 
 ghost use Rattle.std.specs.Prelude.{◌≡◌, ◌+◌, ◌*◌, ◌<◌, ◌≤◌, length};
-ghost use Rattle.tables.specs.Table.{relay_places, relay_number, relay_limit, tablet_places, tablet_number, tablet_relay};
+ghost use Rattle.tables.specs.Table.{places_of, number_in, beside_in};
 ghost use Rattle.place.specs.Places.{SetPlace, SetBeside};
 ghost use Rattle.place.specs.MoveList.{set_move};
 
-pub fn set_relay(relays: &mut [u32], i: usize, r: ring::RelayNumber, limit: u32)
-    requires { i < relay_places relays.old }
-    ensures { SetPlace relay_number relay_limit relays.old relays.new i r.0 limit }
+// A number at place i of a table, and what stands beside it.
+#[tactic(auto, using(crate::proofs::Sets::place_set), unfolding(tables::specs::Table::places_of, tables::specs::Table::number_in, tables::specs::Table::beside_in))]
+pub fn set(table: &mut [u32], i: usize, number: u32, beside: u32)
+    requires { i < places_of table.old }
+    ensures { SetPlace number_in beside_in table.old table.new i number beside }
 {
-    relays[2 * i] = r.0;
-    relays[2 * i + 1] = limit;
+    table[2 * i] = number;
+    table[2 * i + 1] = beside;
 }
 
-pub fn set_relay_limit(relays: &mut [u32], i: usize, limit: u32)
-    requires { i < relay_places relays.old }
-    ensures { SetBeside relay_number relay_limit relays.old relays.new i limit }
+// What stands beside the number at place i.
+#[tactic(auto, using(crate::proofs::Sets::beside_set), unfolding(tables::specs::Table::places_of, tables::specs::Table::number_in, tables::specs::Table::beside_in))]
+pub fn set_beside(table: &mut [u32], i: usize, beside: u32)
+    requires { i < places_of table.old }
+    ensures { SetBeside number_in beside_in table.old table.new i beside }
 {
-    relays[2 * i + 1] = limit;
-}
-
-pub fn set_tablet(tablets: &mut [u32], j: usize, t: ring::TabletNumber, r: ring::RelayNumber)
-    requires { j < tablet_places tablets.old }
-    ensures { SetPlace tablet_number tablet_relay tablets.old tablets.new j t.0 r.0 }
-{
-    tablets[2 * j] = t.0;
-    tablets[2 * j + 1] = r.0;
-}
-
-pub fn set_tablet_relay(tablets: &mut [u32], j: usize, r: ring::RelayNumber)
-    requires { j < tablet_places tablets.old }
-    ensures { SetBeside tablet_number tablet_relay tablets.old tablets.new j r.0 }
-{
-    tablets[2 * j + 1] = r.0;
+    table[2 * i + 1] = beside;
 }
 
 // The move at place c of a move list.

@@ -1,6 +1,6 @@
 -- A plan carried out, a tablet at a time.
---   move_room, moved_none, moved_made                            one tablet stays or moves
--- carrying_none, carrying_moves, carrying_more, carrying_end, carrying_list   no tablet has its new relay; one more may get it, and gets it; all have
+--   move_room    where a tablet moves, the list has a place for it
+--   carrying_none, carrying_moves, carrying_more, carrying_end, carrying_list   no tablet has its new relay; one more may get it, and gets it; all have
 -- Assumes nothing.
 use mathlib.Core.Bool.{Bool, false}
 use mathlib.Core.List.{List, [], ◌∷◌}
@@ -14,38 +14,20 @@ use lib.Dec.{eqb}
 use lib.ListN.{length, get_or, length-append}
 use Rattle.ring.proofs.Tests.{split}
 use Rattle.rule.specs.declared.Move.{Move}
-use Rattle.tables.specs.Table.{relay_number, tablet_places, tablet_number, tablet_relay}
+use Rattle.tables.specs.Table.{relay_number, tablet_number, tablet_relay, places_of}
 use Rattle.tables.proofs.Loops.{eq_or_ne}
 use Rattle.meaning.proofs.Places.{places_ext}
 use Rattle.write.specs.Tables.{listed}
-use Rattle.place.specs.Places.{SetBeside}
-use Rattle.place.specs.MoveList.{set_move}
 use Rattle.write.proofs.Listed.{listed_none, listed_more, length_listed}
 use Rattle.plan.specs.Changes.{changes, new_relay, changes_to}
 use Rattle.plan.specs.Carried.{MovesOne, MovedOne, Carries, Carried}
-use Rattle.plan.proofs.Changes.{picks_same, picks_other, move_of, changes_same, changes_other, changes_fewer}
+use Rattle.plan.proofs.Changes.{move_of, changes_same, changes_other, changes_fewer}
 
 -- ---- one tablet's two relays compared
 
 module _ {rs ts ms : List ℕ} {i j c o n : ℕ} (eo : o ≡ tablet_relay ts j) (en : n ≡ relay_number rs i) where
   pub move_room : MovesOne rs ts ms i j c → (o ≡ n → ⊥) → 3 * (c + 1) ≤ length ms
   move_room a h = a.room (ne_eqb (tablet_relay ts j) (relay_number rs i) (λ e. h (eo ∙ e ∙ sym en)))
-
-  pub moved_none : o ≡ n → MovedOne rs ts ts ms ms i j c c
-  moved_none e = record {
-    tablets = record { size = refl; beside = sym eo ∙ e ∙ en; numbers = λ k. refl; besides = λ k d. refl };
-    list = picks_same _ _ eo en e;
-    count = picks_same _ _ eo en e;
-  }
-
-  pub moved_made : {ts' ms' : List ℕ} {t : ℕ} → t ≡ tablet_number ts j → (o ≡ n → ⊥) → ms' ≡ set_move ms c t o n
-      → SetBeside tablet_number tablet_relay ts ts' j n
-      → MovedOne rs ts ts' ms ms' i j c (c + 1)
-  moved_made et h em s = record {
-    tablets = rw (← en) s;
-    list = em ∙ rw (et, eo, en) (picks_other _ _ eo en h);
-    count = picks_other _ _ eo en h;
-  }
 
 -- ---- all tablets
 
@@ -77,7 +59,7 @@ carrying_end {rs} {relay} {ts} {ts'} {ms} {ms'} {m} {j} l u s = record {
     entries = places_ext (tablet_number ts') (tablet_relay ts') (tablet_number ts) (new_relay rs relay) m
         (λ i h. s.numbers i) (λ i h. s.carried i (omega arith));
     number = λ i h. s.numbers i;
-    relay = λ i h. s.others i (omega arith);
+    beside = λ i h. s.others i (omega arith);
   };
   list = s.list ∙ ap (λ (k : ℕ). listed (changes_to rs relay ts k) ms) (le_antisymm l u);
   count = s.count ∙ ap (λ (k : ℕ). length (changes_to rs relay ts k)) (le_antisymm l u);
@@ -118,7 +100,7 @@ module _ {rs relay ts ts' ms ms' : List ℕ} {m j c i : ℕ} (asked : Carries rs
       )
 
   pub carrying_moves : MovesOne rs ts' ms' i j c
-  unfolding tablet_places
+  unfolding places_of
   carrying_moves = record {
     relay = rw e (asked.seated.relays j more);
     tablet = omega (arith, asked.seated.tablets.there, s.size);

@@ -1,16 +1,16 @@
 -- The moves to other relays, a tablet at a time.
 --   changes_same, changes_other    one tablet more: it stays, or it moves
---   changes_fewer, count_most, count_fits, count_more      how many move
+--   changes_fewer, count_most, count_fits, count_same, count_other    how many move
 --   changes_ext                    two ways to give the same relays
 --   moved_changes                  they are the moves that document 01 defines
 -- Assumes nothing.
-use mathlib.Core.Bool.{true, false, not, ◌&&◌, cond}
+use mathlib.Core.Bool.{Bool, true, false, not, ◌&&◌, cond}
 use mathlib.Core.Path.{◌≡◌, refl, sym, ap, ap₂, ◌∙◌}
 use mathlib.Core.List.{List, [], ◌∷◌, ◌++◌, append-nil}
 use Prim.Native.Nat.{ℕ, zero, suc, ◌+◌, ◌-◌, ◌≤◌, ◌<◌}
 use native.Mathlib.Numerals.{add-one}
 use native.Mathlib.Omega.{arith}
-use borrow.Author.Tests.{eq-eqb, ne_eqb, le-leb}
+use borrow.Author.Tests.{le-leb, not-true, not-false}
 use lib.Dec.{eqb, leb}
 use lib.ListN.{length, length-append}
 use Rattle.ring.proofs.Tests.{split}
@@ -22,15 +22,6 @@ use Rattle.meaning.specs.Meaning.{places}
 use Rattle.meaning.specs.Ascending.{Ascending}
 use Rattle.meaning.proofs.Places.{beside_places, has_place}
 use Rattle.plan.specs.Changes.{grown, changes, new_relay, changes_to}
-
--- ---- two relays compared
-
-module _ {A : Type 0} {o n b d : ℕ} (x y : A) (eb : o ≡ b) (ed : n ≡ d) where
-  pub picks_same : o ≡ n → x ≡ cond (eqb b d) x y
-  picks_same e = rw (eq-eqb b d (sym eb ∙ e ∙ ed))
-
-  pub picks_other : (o ≡ n → ⊥) → y ≡ cond (eqb b d) x y
-  picks_other h = rw (ne_eqb b d (λ e. h (eb ∙ e ∙ sym ed)))
 
 -- ---- a tablet more
 
@@ -47,13 +38,6 @@ module _ (f b d : ℕ → ℕ) where
   changes_other j s = rw (add-one, s)
 
   -- ---- how many
-
-  changes_count : {c v : ℕ} (j : ℕ) → c ≡ length (changes f b d j) → v ≡ cond (eqb (b j) (d j)) 0 1
-      → c + v ≡ length (changes f b d (j + 1))
-  changes_count j e h =
-      split (eqb (b j) (d j))
-      (λ s. omega (arith, rw s at h, ap length (changes_same j s)))
-      (λ s. omega (arith, rw s at h, ap length (changes_other j s), length-append (changes f b d j) (move_of j ∷ [])))
 
   changes_step : (j : ℕ) → (length (changes f b d j) ≤ length (changes f b d (j + 1)))
       × (length (changes f b d (j + 1)) ≤ length (changes f b d j) + 1)
@@ -82,18 +66,34 @@ count_most rs relay ts j = changes_most (tablet_number ts) (tablet_relay ts) (ne
 
 -- as many places as tablets are enough
 pub count_fits : (rs relay ts : List ℕ) (m places : ℕ) → m ≤ places
-    → true ≡ leb (length (changes_to rs relay ts m)) places
+    → leb m places ≡ leb (length (changes_to rs relay ts m)) places
 count_fits rs relay ts m places h =
-    sym (le-leb (length (changes_to rs relay ts m)) places (omega (arith, count_most rs relay ts m)))
+    le-leb m places h ∙ sym (le-leb (length (changes_to rs relay ts m)) places (omega (arith, count_most rs relay ts m)))
 
--- how many of the first tablets, with one more
-pub count_more : (rs relay ts : List ℕ) {c v : ℕ} (j : ℕ) → c ≡ length (changes_to rs relay ts j)
-    → v ≡ cond (eqb (tablet_relay ts j) (new_relay rs relay j)) 0 1
-    → (c + v ≡ length (changes_to rs relay ts (j + 1))) × (c + v ≤ j + 1)
-unfolding changes_to
-count_more rs relay ts j e h =
-    let n = changes_count (tablet_number ts) (tablet_relay ts) (new_relay rs relay) j e h in
-    (n, omega (arith, count_most rs relay ts (j + 1)))
+-- how many of the first tablets, with one more that stays or moves
+module _ (rs relay ts : List ℕ) (j : ℕ) where
+  abbrev test : Bool
+  test = eqb (tablet_relay ts j) (new_relay rs relay j)
+
+  pub count_same : {c : ℕ} → c ≡ length (changes_to rs relay ts j) → not test ≡ false
+      → c ≡ length (changes_to rs relay ts (j + 1))
+  unfolding changes_to
+  count_same e t =
+      e ∙ ap length (sym (changes_same (tablet_number ts) (tablet_relay ts) (new_relay rs relay) j (not-false test t)))
+
+  pub count_other : {c : ℕ} → c ≡ length (changes_to rs relay ts j) → not test ≡ true
+      → c + 1 ≡ length (changes_to rs relay ts (j + 1))
+  unfolding changes_to
+  count_other e t =
+      let f = tablet_number ts in
+      let b = tablet_relay ts in
+      let d = new_relay rs relay in
+      omega (
+        arith,
+        e,
+        ap length (changes_other f b d j (not-true test t)),
+        length-append (changes f b d j) (move_of f b d j ∷ []),
+      )
 
 pub changes_ext : (f b d d' : ℕ → ℕ) (j : ℕ) → ((i : ℕ) → i < j → d i ≡ d' i) → changes f b d j ≡ changes f b d' j
 unfolding changes

@@ -3,7 +3,7 @@ use Rattle.std.specs.Prelude.{false, cond, List, ◌≡◌, ℕ, ◌+◌, ◌*�
 use Rattle.tables.specs.Table.{relay_places, relay_number, tablet_places, tablet_number, tablet_relay}
 use Rattle.meaning.specs.Meaning.{places}
 use Rattle.write.specs.Tables.{listed}
-use Rattle.write.specs.Wrote.{WroteTablets}
+use Rattle.write.specs.Wrote.{WroteEntries}
 use Rattle.place.specs.Places.{SetBeside}
 use Rattle.place.specs.MoveList.{set_move}
 use Rattle.plan.specs.Changes.{new_relay, changes_to}
@@ -27,6 +27,6 @@ pub record Carries (rs relay ts ms : List ℕ) (m : ℕ) : Type 0 where
   pub room : 3 * length (changes_to rs relay ts m) ≤ length ms
 
 pub record Carried (rs relay ts ts' ms ms' : List ℕ) (m c : ℕ) : Type 0 where
-  pub tablets : WroteTablets ts ts' m (places (tablet_number ts) (new_relay rs relay) m)
+  pub tablets : WroteEntries ts ts' m (places (tablet_number ts) (new_relay rs relay) m)
   pub list : ms' ≡ listed (changes_to rs relay ts m) ms
   pub count : c ≡ length (changes_to rs relay ts m)

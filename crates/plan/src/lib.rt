@@ -2,7 +2,7 @@
 // writing of it. A plan is made before anything is written.
 #![tactic(auto)]
 
-ghost use Rattle.std.specs.Prelude.{cond, ◌≡◌, ◌+◌, ◌<◌, eqb, leb, length, get_or};
+ghost use Rattle.std.specs.Prelude.{not, ◌≡◌, ◌<◌, eqb, leb, length, get_or};
 ghost use Rattle.ring.specs.Most.{most_tablets};
 ghost use Rattle.ring.specs.Scheme.{Positions};
 ghost use Rattle.rule.specs.Entry.{total};
@@ -13,13 +13,6 @@ ghost use Rattle.plan.specs.Changes.{new_relay, changes_to};
 ghost use Rattle.plan.specs.Plan.{Limited, Plans, Assigned, Planned};
 ghost use Rattle.plan.specs.Carried.{MovesOne, MovedOne, Carries, Carried};
 
-// A refusal; or for each tablet the place of its relay.
-#[derive(Drop)]
-pub struct Plan {
-    pub refusal: rule::Refusal,
-    pub relay: [u8; ring::MOST_TABLETS],
-}
-
 // ---- whether the limits suffice
 
 // The limits of the n relays together.
@@ -27,44 +20,34 @@ fn limit_sum(relays: &[u32], n: usize) -> usize
     requires { Limited relays.now n }
     ensures { result ≡ total (relays_in relays.now n) }
 {
-    let mut sum: usize = 0;
-    let mut i: usize = 0;
-    while i < n {
-        sum += ring::from_u32(tables::relay_limit(relays, i));
-        i += 1;
+    let mut sum = 0;
+    for i in 0..n {
+        sum += tables::relay_limit(relays, i) as usize;
     }
     sum
 }
 
 // ---- how many move
 
-// 1 where tablet j is to have another relay than is written beside it.
-fn one_if_moves(
-    relays: &[u32],
-    relay: &[u8; ring::MOST_TABLETS],
-    tablets: &[u32],
-    j: usize,
-) -> usize
+// Is tablet j to have another relay than is written beside it?
+#[tactic(auto, unfolding(crate::specs::Changes::new_relay))]
+fn moves(relays: &[u32], relay: &[u8; ring::MOST_TABLETS], tablets: &[u32], j: usize) -> bool
     requires { (j < most_tablets) × (j < tablet_places tablets.now)
         × (get_or relay.now j 0 < relay_places relays.now) }
-    ensures { result ≡ cond (eqb (tablet_relay tablets.now j)
-        (new_relay relays.now relay.now j)) 0 1 }
+    ensures { result ≡ not (eqb (tablet_relay tablets.now j) (new_relay relays.now relay.now j)) }
 {
-    let i = ring::from_u8(relay[j]);
-    let new = tables::relay_number(relays, i);
-    let old = tables::tablet_relay(tablets, j);
-    if old.0 == new.0 { 0 } else { 1 }
+    tables::tablet_relay(tablets, j) != tables::relay_number(relays, usize::from(relay[j]))
 }
 
 fn count_moves(relays: &[u32], relay: &[u8; ring::MOST_TABLETS], tablets: &[u32], m: usize) -> usize
     requires { Assigned relays.now relay.now tablets.now m }
     ensures { result ≡ length (changes_to relays.now relay.now tablets.now m) }
 {
-    let mut c: usize = 0;
-    let mut j: usize = 0;
-    while j < m {
-        c += one_if_moves(relays, relay, tablets, j);
-        j += 1;
+    let mut c = 0;
+    for j in 0..m {
+        if moves(relays, relay, tablets, j) {
+            c += 1;
+        }
     }
     c
 }
@@ -82,50 +65,33 @@ fn moves_fit(
         places }
 {
     let enough = m <= places;
-    if enough {
-        return true;
-    }
-    count_moves(relays, relay, tablets, m) <= places
+    enough || count_moves(relays, relay, tablets, m) <= places
 }
 
 // ---- the plan
 
-// A refusal, with nothing planned.
-fn no_plan(refusal: rule::Refusal) -> Plan
-    ensures { result.refusal ≡ refusal }
-{
-    Plan {
-        refusal: refusal,
-        relay: [0u8; ring::MOST_TABLETS],
-    }
-}
-
-// What the n relays, in ring order, do to the m tablets, whose homes are known, for a move list of so many places.
-pub fn work_out<'a>(
+// For each of the m tablets the place of its relay among the n relays, from the relays in ring order and the tablets' homes; or the refusal,
+// for a move list of so many places.
+pub fn work_out(
     relays: &[u32],
     tablets: &[u32],
-    keys: &'a [u64; ring::MOST_RELAYS],
-    home: &'a [u8; ring::MOST_TABLETS],
+    around: &ring_edit::Around,
     n: usize,
     m: usize,
     places: usize,
-) -> Plan
-    requires { Plans relays.now tablets.now n m keys.now home.now }
-    ensures { (p : Positions) → Homes p relays.now tablets.now n m keys.now
-        home.now → Planned p relays.now tablets.now n m places result }
+) -> Result<[u8; ring::MOST_TABLETS], rule::Refusal>
+    requires { Plans relays.now tablets.now n m around.now }
+    ensures { (p : Positions) → Homes p relays.now tablets.now n m around.now.keys around.now.home
+        → Planned p relays.now tablets.now n m places result }
 {
     if limit_sum(relays, n) < m {
-        return no_plan(rule::Refusal::LimitsTooSmall);
+        return Err(rule::Refusal::LimitsTooSmall);
     }
-    let relay = refill::refill(relays, keys, home, n, m);
-    let fit = moves_fit(relays, &relay, tablets, m, places);
-    if fit {
-        return Plan {
-            refusal: rule::Refusal::Done,
-            relay: relay,
-        };
+    let relay = refill::refill(relays, &around.keys, &around.home, n, m);
+    if !moves_fit(relays, &relay, tablets, m, places) {
+        return Err(rule::Refusal::MoveListTooShort);
     }
-    no_plan(rule::Refusal::MoveListTooShort)
+    Ok(relay)
 }
 
 // ---- the writing
@@ -145,12 +111,12 @@ fn move_one(
 {
     let old = tables::tablet_relay(tablets, j);
     let new = tables::relay_number(relays, i);
-    if old.0 == new.0 {
+    if old == new {
         return c;
     }
     let t = tables::tablet_number(tablets, j);
     place::list_move(moves, c, t, old, new);
-    place::set_tablet_relay(tablets, j, new);
+    place::set_beside(tablets, j, new.0);
     c + 1
 }
 
@@ -166,12 +132,9 @@ pub fn carry_out(
     ensures { Carried relays.now relay.now tablets.old tablets.new
         moves.old moves.new m result }
 {
-    let mut c: usize = 0;
-    let mut j: usize = 0;
-    while j < m {
-        let i = ring::from_u8(relay[j]);
-        c = move_one(relays, tablets, moves, i, j, c);
-        j += 1;
+    let mut c = 0;
+    for j in 0..m {
+        c = move_one(relays, tablets, moves, usize::from(relay[j]), j, c);
     }
     c
 }

@@ -25,7 +25,7 @@ use Rattle.rule.proofs.Accepted.{bar_passed}
 use Rattle.rule.proofs.Counts.{length_insert, delete_length}
 use Rattle.rule.proofs.Lengths.{moves_length}
 use Rattle.tables.specs.Table.{tablet_places, tablet_number, tablet_relay}
-use Rattle.tables.specs.Shape.{tablets_used}
+use Rattle.tables.specs.Shape.{tablets_used, used_in}
 use Rattle.tables.proofs.Shaped.{used_most}
 use Rattle.meaning.specs.Meaning.{ring_of, tables_right, tables_bars}
 use Rattle.meaning.proofs.Fit.{whole_tablets, right_fit}
@@ -38,7 +38,7 @@ module _ (rs ts : List ℕ) where
   -- the tablets of a table that fits
   tablets_few : (s : ℕ) → tables_right s rs ts ≡ true → (length (ring_of rs ts).tablets ≤ tablet_places ts)
       × (tablet_places ts ≤ most_tablets)
-  unfolding ring_of tablets_used
+  unfolding ring_of used_in
   tablets_few s ok = (
     omega (
       arith,

@@ -1,7 +1,7 @@
 -- From a call on the numbers of a move list to what it did for a list of records (`works`). Assumes nothing.
 use mathlib.Core.List.{List, [], ◌++◌}
 use mathlib.Core.Path.{◌≡◌, sym, ap, ap₂, ◌∙◌}
-use Prim.Native.Nat.{ℕ, ◌*◌, ◌/◌, ◌-◌, ◌≤◌, min}
+use Prim.Native.Nat.{ℕ, ◌*◌, ◌/◌, ◌≤◌, min}
 use native.Mathlib.Omega.{arith}
 use lib.ListN.{length, take, drop, length-append}
 use lib.Seq.{length-take-le, take_at, take-append-le}
@@ -32,8 +32,8 @@ listed_first ms list rest h =
 
 -- the part of the numbers that is lent
 pub scratch_length : (numbers : List ℕ) (k room : ℕ) → length numbers ≡ 3 * most_tablets → k ≡ min room most_tablets
-    → length (take (3 * k - 0) (drop 0 numbers)) ≡ 3 * min room most_tablets
-scratch_length numbers k room h e = length-take-le (3 * k - 0) numbers (omega (arith, h, e)) ∙ omega (arith, e)
+    → length (take (3 * k) numbers) ≡ 3 * min room most_tablets
+scratch_length numbers k room h e = length-take-le (3 * k) numbers (omega (arith, h, e)) ∙ omega (arith, e)
 
 module _ (s : ℕ) (rs ts : List ℕ) (room : ℕ) (c : Call) where
   abbrev o : Outcome

@@ -1,7 +1,7 @@
 // What a call leaves for a list of move records (document 01, "Forms for each place"): its moves as numbers, and each of them as a record.
 #![tactic(auto)]
 
-ghost use Rattle.std.specs.Prelude.{◌≡◌, ◌+◌, ◌*◌, ◌<◌, min, length};
+ghost use Rattle.std.specs.Prelude.{◌≡◌, ◌+◌, ◌*◌, ◌<◌, length};
 ghost use Rattle.ring.specs.Most.{most_tablets};
 ghost use Rattle.records.specs.Record.{move_at};
 ghost use Rattle.records.specs.Works.{Works};
@@ -26,18 +26,8 @@ pub fn made(reply: rule::Reply) -> usize
     reply.moves as usize
 }
 
-// So many places of a move list as can be of use.
-fn useful(room: usize) -> usize
-    ensures { result ≡ min room most_tablets }
-{
-    if room <= ring::MOST_TABLETS {
-        room
-    } else {
-        ring::MOST_TABLETS
-    }
-}
-
 // The call on the tables, for a move list with so many places. Its moves are written into the numbers; no tally is lent to it.
+// The slices stay apart, as `calls::call` takes them for C.
 pub fn work_on(
     scheme: u32,
     relays: &mut [u32],
@@ -50,15 +40,8 @@ pub fn work_on(
     ensures { Works scheme relays.old tablets.old room c result numbers.new
         relays.new tablets.new }
 {
-    let mut none = [0u32; 1];
-    let places = useful(room);
-    let end = 3 * places;
-    calls::call(
-        scheme,
-        relays,
-        tablets,
-        &mut numbers[0..end],
-        &mut none[0..0],
-        c,
-    )
+    // More places than a full move list has are of no use.
+    let places = room.min(ring::MOST_TABLETS);
+    let moves = &mut numbers[..3 * places];
+    calls::call(scheme, relays, tablets, moves, &mut [], c)
 }

@@ -22,13 +22,11 @@ pub fn refill(
     let mut room = placing::relay_limits(relays, n);
     let mut next = row::first_row(keys, &room, n);
     let mut relay = [0u8; ring::MOST_TABLETS];
-    let mut j: usize = 0;
-    while j < m {
-        let h = ring::from_u8(home[j]);
+    for j in 0..m {
+        let h = usize::from(home[j]);
         let k = row::led_to(&next, h);
         relay[j] = order::slot_relay(keys, k) as u8;
         row::take(keys, &mut room, &mut next, n, k);
-        j += 1;
     }
     relay
 }

@@ -6,7 +6,7 @@ ghost use Rattle.std.specs.Prelude.{ℕ, ◌≤◌, length};
 ghost use Rattle.rule.specs.declared.Call.{Call};
 ghost use Rattle.rule.specs.declared.Call.TheVariants.{Add, Remove, Set};
 ghost use Rattle.promise.specs.Promise.{Answers};
-ghost use Rattle.call_start.specs.Promise.{lists, after};
+ghost use Rattle.call_start.specs.Promise.{lists, after, Ends};
 ghost use Rattle.relay_edit.specs.Edited.{own_numbers, Edits};
 ghost use Rattle.relay_calls.specs.Finish.{Replaced, Comes};
 
@@ -15,56 +15,33 @@ fn put_back(relays: &mut [u32], own: &[u32; tables::RELAY_NUMBERS])
     requires { length relays.old ≤ own_numbers }
     ensures { Replaced own.now relays.old relays.new }
 {
-    let mut i: usize = 0;
-    while i < relays.len() {
-        relays[i] = own[i];
-        i += 1;
-    }
+    let n = relays.len();
+    relays.copy_from_slice(&own[..n]);
 }
 
-// What every call about a relay ends in, from its edit on: the plan, and where that is not refused the writing.
+// What every call about a relay ends in, from its edit on: the plan, and where that is not refused the writing. What is refused writes nothing.
 fn finish(
     relays: &mut [u32],
     tablets: &mut [u32],
     moves: &mut [u32],
     r: ring::RelayNumber,
-    e: relay_edit::Edit,
-) -> rule::Reply
-    requires { Comes relays.old tablets.old r.0 e }
-    ensures { (s : ℕ) (c : Call) → Edits s relays.old tablets.old c r.0 e
-        → Answers (after s relays.old tablets.old moves.old c)
-        result (lists relays.new tablets.new moves.new) }
+    edit: Result<relay_edit::Edit, rule::Refusal>,
+) -> Result<rule::Reply, rule::Refusal>
+    requires { Comes relays.old tablets.old r.0 edit }
+    ensures { (s : ℕ) (c : Call) → Edits s relays.old tablets.old c r.0 edit
+        → Ends (after s relays.old tablets.old moves.old c) result (lists relays.new tablets.new moves.new) }
 {
-    let first = e.refusal;
-    let done = rule::done(first);
-    if !done {
-        return rule::bare_reply(first);
-    }
-    let own = e.relays;
-    let m = e.m;
-    let plan = plan::work_out(
-        &own,
-        tablets,
-        &e.around.keys,
-        &e.around.home,
-        e.n,
-        m,
-        moves.len() / 3,
-    );
-    let last = plan.refusal;
-    let done = rule::done(last);
-    if !done {
-        return rule::bare_reply(last);
-    }
-    let count = plan::carry_out(&own, &plan.relay, tablets, moves, m);
-    put_back(relays, &own);
-    let listed = count as u32;
-    rule::Reply {
+    let e = edit?;
+    let places = moves.len() / 3;
+    let relay = plan::work_out(&e.relays, tablets, &e.around, e.n, e.m, places)?;
+    let count = plan::carry_out(&e.relays, &relay, tablets, moves, e.m);
+    put_back(relays, &e.relays);
+    Ok(rule::Reply {
         refusal: rule::Refusal::Done,
         relay: r,
         passed: 0,
-        moves: listed,
-    }
+        moves: count as u32,
+    })
 }
 
 pub fn add(
@@ -79,8 +56,8 @@ pub fn add(
         (Add r limit))
         result (lists relays.new tablets.new moves.new) }
 {
-    let e = relay_edit::edit_add(scheme, relays, tablets, r, limit);
-    finish(relays, tablets, moves, r, e)
+    let edit = relay_edit::edit_add(scheme, relays, tablets, r, limit);
+    finish(relays, tablets, moves, r, edit).unwrap_or_else(rule::bare_reply)
 }
 
 pub fn remove(
@@ -94,8 +71,8 @@ pub fn remove(
         (Remove r))
         result (lists relays.new tablets.new moves.new) }
 {
-    let e = relay_edit::edit_remove(scheme, relays, tablets, r);
-    finish(relays, tablets, moves, r, e)
+    let edit = relay_edit::edit_remove(scheme, relays, tablets, r);
+    finish(relays, tablets, moves, r, edit).unwrap_or_else(rule::bare_reply)
 }
 
 pub fn set(
@@ -110,6 +87,6 @@ pub fn set(
         (Set r limit))
         result (lists relays.new tablets.new moves.new) }
 {
-    let e = relay_edit::edit_set(scheme, relays, tablets, r, limit);
-    finish(relays, tablets, moves, r, e)
+    let edit = relay_edit::edit_set(scheme, relays, tablets, r, limit);
+    finish(relays, tablets, moves, r, edit).unwrap_or_else(rule::bare_reply)
 }

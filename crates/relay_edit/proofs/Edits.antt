@@ -1,6 +1,6 @@
 -- From what a relay call finds to what it comes to.
 --   add_about, remove_about, set_about          what the three calls are about
---   found_refused, found_stands                 the refusals 1 and 2, and past them
+--   found_refused                               the refusals 1 and 2
 --   add_refused, remove_refused, set_refused    the refusals 3 to 7
 --   add_asks                                    the new relay may be put among the others
 --   add_passed, remove_passed, set_passed       past them all: the relay put in, taken out, changed
@@ -9,15 +9,14 @@ use mathlib.Core.Bool.{Bool, true, false, not}
 use mathlib.Core.List.{List, [], ◌∷◌}
 use mathlib.Core.Path.{◌≡◌, refl, sym, ap, ap₂, ◌∙◌}
 use Prim.Native.Nat.{ℕ, ◌+◌, ◌-◌, ◌^◌, ◌≤◌, ◌<◌}
-use borrow.Author.Tests.{leb-false, not-true, not-false}
+use borrow.Author.Tests.{leb-false, not-false}
 use lib.Dec.{eqb, ltb, leb}
 use native.Mathlib.Omega.{arith}
 use Rattle.ring.specs.Most.{most_relays, most_limit}
 use Rattle.ring.specs.Scheme.{positions}
 use Rattle.ring.specs.declared.RelayNumber.{RelayNumber}
-use Rattle.ring.proofs.Tests.{true_false}
 use Rattle.rule.specs.declared.Refusal.{Refusal}
-use Rattle.rule.specs.declared.Refusal.TheVariants.{NumberZero, TooLarge, NotThere, ThereAlready, NoUnusedPlace}
+use Rattle.rule.specs.declared.Refusal.TheVariants.{Done, NumberZero, TooLarge, NotThere, ThereAlready, NoUnusedPlace}
 use Rattle.rule.specs.declared.Call.{Call}
 use Rattle.rule.specs.declared.Call.TheVariants.{Add, Remove, Set}
 use Rattle.rule.specs.Entry.{has, insert, delete, put}
@@ -25,19 +24,21 @@ use Rattle.rule.specs.Refusals.{is_done, Bar, bar, first_bar}
 use Rattle.rule.specs.Calls.{subject, edited, relay_of, passed, wrong_numbers}
 use Rattle.rule.proofs.Accepted.{bar_passed}
 use Rattle.tables.specs.Table.{relay_places, relay_number, relay_limit}
-use Rattle.meaning.specs.Meaning.{relays_in, ring_of, lent_of}
-use Rattle.write.specs.Wrote.{WroteRelays, Place, Climbs}
+use Rattle.std.proofs.Common.{Ok, Err}
+use Rattle.meaning.specs.Meaning.{tables_refusal, relays_in, ring_of, lent_of}
+use Rattle.write.specs.Wrote.{WroteEntries, Place, Climbs}
 use Rattle.place.specs.Places.{SetBeside}
 use Rattle.write.specs.Places.{TookOut}
+use Rattle.ring.proofs.Tests.{true_false}
 use Rattle.lookup.specs.Spot.{missing}
-use Rattle.lookup.proofs.There.{missing_there}
+use Rattle.lookup.proofs.There.{missing_refused}
 use Rattle.ring_edit.specs.declared.Around.{Around}
 use Rattle.ring_edit.specs.Homes.{Homes, TakenOut, PutsIn, PutIn}
 use Rattle.call_start.proofs.Stays.{relays_few_lem}
 use Rattle.call_start.proofs.Refusals.{look_refused, number_refused}
 use Rattle.relay_edit.specs.declared.found.Found.{Found}
 use Rattle.relay_edit.specs.declared.Edit.{Edit}
-use Rattle.relay_edit.specs.Found.{Stands, Finds}
+use Rattle.relay_edit.specs.Found.{Stands}
 use Rattle.relay_edit.specs.Refused.{add_refusal, set_refusal}
 use Rattle.relay_edit.specs.Edited.{Copied, About, Written, Edits}
 use Rattle.relay_edit.proofs.Bars.{add_numbers, remove_numbers, set_numbers}
@@ -61,62 +62,41 @@ module _ (r : RelayNumber) where
 
 -- ---- refusals
 
-refused_edit : {s : ℕ} {rs ts : List ℕ} {c : Call} {x : ℕ} {e : Edit} {w : Refusal} → About c x → is_done w ≡ false
-    → e.refusal ≡ w
-    → ((ms : List ℕ) → Rattle.rule.specs.Calls.refusal (positions s) (lent_of s rs ts ms) (ring_of rs ts) c ≡ w)
-    → Edits s rs ts c x e
-refused_edit a n e h = record {
-  about = a;
-  refused = λ d ms. h ms ∙ sym e;
-  passed_on = λ d. absurd (true_false (sym d ∙ ap is_done e ∙ n));
-}
-
-module _ {s : ℕ} {rs ts : List ℕ} {x : ℕ} {f : Found} (found : Finds s rs ts x f) {d : Bool}
-    (ed : d ≡ is_done f.refusal) where
-  pub found_refused : {c : Call} {e : Edit} → not d ≡ true → About c x → e.refusal ≡ f.refusal → Edits s rs ts c x e
-  found_refused {c} h a e =
-      let n : is_done f.refusal ≡ false = sym ed ∙ not-true _ h in
-      refused_edit a n e (λ ms. look_refused s rs ts ms c f.refusal (sym found.refusal) n)
-
-  pub found_stands : not d ≡ false → Stands s rs ts x f.n f.m f.at f.there f.around
-  found_stands h = found.stands (sym ed ∙ not-false d h)
+pub found_refused : (s : ℕ) (rs ts : List ℕ) {x : ℕ} {why : Refusal} → (tables_refusal s rs ts ≡ why) × (is_done why ≡ false)
+    → {c : Call} → About c x → Edits s rs ts c x (Err why)
+found_refused s rs ts {why = why} w {c} a =
+    record { about = a; comes = (λ ms. look_refused s rs ts ms c why w.0 w.1, w.1) }
 
 -- ---- the refusals 3 to 7, once the tables are found right
 
-module _ {s : ℕ} {rs ts : List ℕ} {x n m at : ℕ} {there : Bool} {around : Around}
-    (stands : Stands s rs ts x n m at there around) where
-  module _ {c : Call} (a : About c x) {w : Refusal}
-      (why : (ms : List ℕ) → first_bar (wrong_numbers (lent_of s rs ts ms) (ring_of rs ts) c) ≡ w)
-      {d : Bool} (ed : d ≡ is_done w) {e : Edit} (ee : e.refusal ≡ w) where
-    numbers_refused : not d ≡ true → Edits s rs ts c x e
-    numbers_refused h =
-        let z : is_done w ≡ false = sym ed ∙ not-true _ h in
-        refused_edit a z ee (λ ms. number_refused s rs ts ms c stands.start w (why ms) z)
+module _ {s : ℕ} {rs ts : List ℕ} {x : ℕ} {f : Found} (stands : Stands s rs ts x f) {c : Call} (a : About c x)
+    {w : Refusal} (is : (ms : List ℕ) → first_bar (wrong_numbers (lent_of s rs ts ms) (ring_of rs ts) c) ≡ w) where
+  numbers_refused : (why : Refusal) → (w ≡ why) × (is_done why ≡ false) → Edits s rs ts c x (Err why)
+  numbers_refused why e =
+      record { about = a; comes = (λ ms. number_refused s rs ts ms c stands.start why (is ms ∙ e.0) e.1, e.1) }
 
-    numbers_passed : not d ≡ false → subject c < 2 ^ 32 → m ≡ e.m → Written rs ts c e.n e.relays
-        → Homes (positions s) e.relays ts e.n m e.around.keys e.around.home → Edits s rs ts c x e
-    numbers_passed h small em o y =
-        let z : is_done w ≡ true = sym ed ∙ not-false d h in
-        record {
-          about = a;
-          refused = λ q. absurd (true_false (sym z ∙ sym (ap is_done ee) ∙ q));
-          passed_on = λ q. record {
-            used = n;
-            survey = stands.survey;
-            start = rw (← em) stands.start;
-            small = small;
-            numbers = λ ms. ap is_done (why ms) ∙ z;
-            written = o;
-            homes = rw (← em) y;
-          };
-        }
+  numbers_passed : is_done w ≡ true → subject c < 2 ^ 32 → (e : Edit) → f.m ≡ e.m → Written rs ts c e.n e.relays
+      → Homes (positions s) e.relays ts e.n f.m e.around.keys e.around.home → Edits s rs ts c x (Ok e)
+  numbers_passed d small e em o y = record {
+    about = a;
+    comes = record {
+      used = f.n;
+      survey = stands.survey;
+      start = rw (← em) stands.start;
+      small = small;
+      numbers = λ ms. ap is_done (is ms) ∙ d;
+      written = o;
+      homes = rw (← em) y;
+    };
+  }
 
 -- ---- what passing the refusals 3 to 7 says
 
-add_open : (x limit : ℕ) (there full : Bool) → is_done (add_refusal x limit there full) ≡ true → (there ≡ false)
+add_open : (x limit : ℕ) (there full : Bool) → add_refusal x limit there full ≡ Done → (there ≡ false)
     × (full ≡ false)
 unfolding add_refusal is_done
-add_open x limit there full h =
+add_open x limit there full e =
+    let h : is_done (add_refusal x limit there full) ≡ true = ap is_done e in
     let b₄ : List Bar = bar full NoUnusedPlace ∷ [] in
     let b₃ : List Bar = bar there ThereAlready ∷ b₄ in
     let b₂ : List Bar = bar (ltb most_limit limit) TooLarge ∷ b₃ in
@@ -125,9 +105,15 @@ add_open x limit there full h =
     let h₃ = bar_passed there ThereAlready b₄ refl h₂.1 in
     (h₃.0, (bar_passed full NoUnusedPlace [] refl h₃.1).0)
 
-set_open : (x limit : ℕ) (there : Bool) → is_done (set_refusal x limit there) ≡ true → there ≡ true
+remove_open : (x : ℕ) (there : Bool) → missing x there ≡ Done → there ≡ true
+unfolding is_done
+remove_open x true e = refl
+remove_open x false e = absurd (true_false (sym (ap is_done e) ∙ missing_refused x))
+
+set_open : (x limit : ℕ) (there : Bool) → set_refusal x limit there ≡ Done → there ≡ true
 unfolding set_refusal is_done
-set_open x limit there h =
+set_open x limit there e =
+    let h : is_done (set_refusal x limit there) ≡ true = ap is_done e in
     let b₃ : List Bar = bar (not there) NotThere ∷ [] in
     let b₂ : List Bar = bar (ltb most_limit limit) TooLarge ∷ b₃ in
     let h₁ = bar_passed (eqb x 0) NumberZero b₂ refl h in
@@ -136,89 +122,90 @@ set_open x limit there h =
 
 -- ---- the three calls
 
-module _ {s : ℕ} {rs ts : List ℕ} {n m at : ℕ} {there : Bool} {around : Around} (r : RelayNumber)
-    (stands : Stands s rs ts r.0 n m at there around) {w : Refusal} {d : Bool} (ed : d ≡ is_done w) where
-  module _ (limit : ℕ) {places : ℕ} (ep : places ≡ relay_places rs)
-      (ew : w ≡ add_refusal r.0 limit there (leb places n)) where
-    add_why : (ms : List ℕ) → first_bar (wrong_numbers (lent_of s rs ts ms) (ring_of rs ts) (Add r limit)) ≡ w
-    add_why ms =
+module _ {s : ℕ} {rs ts : List ℕ} {f : Found} (r : RelayNumber) (stands : Stands s rs ts r.0 f) where
+  module _ (limit : ℕ) {places : ℕ} (ep : places ≡ relay_places rs) where
+    abbrev add_bar : Refusal
+    add_bar = add_refusal r.0 limit f.there (leb places f.n)
+
+    add_is : (ms : List ℕ) → first_bar (wrong_numbers (lent_of s rs ts ms) (ring_of rs ts) (Add r limit)) ≡ add_bar
+    add_is ms =
         add_numbers stands.start ms r limit ∙ sym
-        (ew ∙ ap₂ (add_refusal r.0 limit) stands.there_is (ap (λ (k : ℕ). leb k n) ep))
+        (ap₂ (add_refusal r.0 limit) stands.there_is (ap (λ (k : ℕ). leb k f.n) ep))
 
-    pub add_refused : {e : Edit} → About (Add r limit) r.0 → not d ≡ true → e.refusal ≡ w
-        → Edits s rs ts (Add r limit) r.0 e
-    add_refused a h ee = numbers_refused stands a add_why ed ee h
+    pub add_refused : (why : Refusal) → (add_bar ≡ why) × (is_done why ≡ false) → Edits s rs ts (Add r limit) r.0 (Err why)
+    add_refused = numbers_refused stands (add_about r limit) add_is
 
-    module _ (h : not d ≡ false) {own : List ℕ} (cp : Copied rs own) where
-      may_add : (has (relays_in rs n) r.0 ≡ false) × (n < relay_places rs)
+    module _ (h : add_bar ≡ Done) {own : List ℕ} (cp : Copied rs own) where
+      may_add : (has (relays_in rs f.n) r.0 ≡ false) × (f.n < relay_places rs)
       may_add =
-          let o = add_open r.0 limit there (leb places n) (ap is_done (sym ew) ∙ sym ed ∙ not-false d h) in
-          (sym stands.there_is ∙ o.0, rw ep at (leb-false places n o.1))
+          let o = add_open r.0 limit f.there (leb places f.n) h in
+          (sym stands.there_is ∙ o.0, rw ep at (leb-false places f.n o.1))
 
-      pub add_fits : (n < relay_places own) × Place (relay_number own) n r.0 at
+      pub add_fits : (f.n < relay_places own) × Place (relay_number own) f.n r.0 f.at
       add_fits = insert_fits stands cp may_add.0 may_add.1
 
-      add_few : n < most_relays
+      add_few : f.n < most_relays
       add_few = omega (arith, may_add.1, relays_few_lem stands.start)
 
-      pub add_asks : PutsIn ts n m at around.keys
+      pub add_asks : PutsIn ts f.n f.m f.at f.around.keys
       add_asks = put_asks stands add_few
 
-      pub add_passed : {e : Edit} → About (Add r limit) r.0 → r.0 < 2 ^ 32 → e.refusal ≡ w → e.n ≡ n + 1
-          → m ≡ e.m
-          → WroteRelays own e.relays (n + 1) (insert r.0 limit (relays_in own n)) → {q : ℕ}
+      pub add_passed : r.0 < 2 ^ 32 → {own' : List ℕ} {around : Around}
+          → WroteEntries own own' (f.n + 1) (insert r.0 limit (relays_in own f.n)) → {q : ℕ}
           → q ≡ (positions s).relay_at r.0 → q < 2 ^ 32
-          → PutIn (positions s) ts n m at q around.keys around.home e.around
-          → Edits s rs ts (Add r limit) r.0 e
-      add_passed a small ee en em o eq lq t =
-          numbers_passed stands a add_why ed ee h (unfold subject in small) em
-          (rw en (insert_written stands cp may_add.0 may_add.1 r limit refl o))
-          (rw en (put_around stands cp limit add_few add_fits.1 o t eq lq))
+          → PutIn (positions s) ts f.n f.m f.at q f.around.keys f.around.home around
+          → Edits s rs ts (Add r limit) r.0 (Ok (record { n = f.n + 1; m = f.m; relays = own'; around = around }))
+      unfolding is_done
+      add_passed small o eq lq t =
+          numbers_passed stands (add_about r limit) add_is (ap is_done h) (unfold subject in small) _ refl
+          (insert_written stands cp may_add.0 may_add.1 r limit refl o)
+          (put_around stands cp limit add_few add_fits.1 o t eq lq)
 
-  module _ (ew : w ≡ missing r.0 there) where
-    remove_why : (ms : List ℕ) → first_bar (wrong_numbers (lent_of s rs ts ms) (ring_of rs ts) (Remove r)) ≡ w
-    remove_why ms = remove_numbers stands.start ms r ∙ sym (ew ∙ ap (missing r.0) stands.there_is)
+  remove_is : (ms : List ℕ) → first_bar (wrong_numbers (lent_of s rs ts ms) (ring_of rs ts) (Remove r)) ≡ missing r.0 f.there
+  remove_is ms = remove_numbers stands.start ms r ∙ sym (ap (missing r.0) stands.there_is)
 
-    pub remove_refused : {e : Edit} → About (Remove r) r.0 → not d ≡ true → e.refusal ≡ w
-        → Edits s rs ts (Remove r) r.0 e
-    remove_refused a h ee = numbers_refused stands a remove_why ed ee h
+  pub remove_refused : (why : Refusal) → (missing r.0 f.there ≡ why) × (is_done why ≡ false) → Edits s rs ts (Remove r) r.0 (Err why)
+  remove_refused = numbers_refused stands (remove_about r) remove_is
 
-    module _ (h : not d ≡ false) {own : List ℕ} (cp : Copied rs own) where
-      may_remove : has (relays_in rs n) r.0 ≡ true
-      may_remove = sym stands.there_is ∙ missing_there r.0 there (ap is_done (sym ew) ∙ sym ed ∙ not-false d h)
+  module _ (h : missing r.0 f.there ≡ Done) {own : List ℕ} (cp : Copied rs own) where
+    may_remove : has (relays_in rs f.n) r.0 ≡ true
+    may_remove = sym stands.there_is ∙ remove_open r.0 f.there h
 
-      pub remove_fits : (at < n) × (n ≤ relay_places own) × Climbs (relay_number own) n
-      remove_fits = change_fits stands cp may_remove
+    pub remove_fits : (f.at < f.n) × (f.n ≤ relay_places own) × Climbs (relay_number own) f.n
+    remove_fits = change_fits stands cp may_remove
 
-      pub remove_passed : {e : Edit} → About (Remove r) r.0 → e.refusal ≡ w → e.n ≡ n - 1 → m ≡ e.m
-          → TookOut relay_number relay_limit own e.relays (n - 1) (delete (relay_number own at) (relays_in own n))
-          → TakenOut (n - 1) m at around.keys around.home e.around → Edits s rs ts (Remove r) r.0 e
-      remove_passed a ee en em o t =
-          numbers_passed stands a remove_why ed ee h (unfold subject in here_small stands cp may_remove) em
-          (rw en (delete_written stands cp may_remove r refl o))
-          (rw en (take_around stands cp remove_fits.0 o t))
+    pub remove_passed : {own' : List ℕ} {around : Around}
+        → TookOut relay_number relay_limit own own' (f.n - 1) (delete (relay_number own f.at) (relays_in own f.n))
+        → TakenOut (f.n - 1) f.m f.at f.around.keys f.around.home around
+        → Edits s rs ts (Remove r) r.0 (Ok (record { n = f.n - 1; m = f.m; relays = own'; around = around }))
+    unfolding is_done
+    remove_passed o t =
+        numbers_passed stands (remove_about r) remove_is (ap is_done h) (unfold subject in here_small stands cp may_remove) _ refl
+        (delete_written stands cp may_remove r refl o)
+        (take_around stands cp remove_fits.0 o t)
 
-  module _ (limit : ℕ) (ew : w ≡ set_refusal r.0 limit there) where
-    set_why : (ms : List ℕ) → first_bar (wrong_numbers (lent_of s rs ts ms) (ring_of rs ts) (Set r limit)) ≡ w
-    set_why ms = set_numbers stands.start ms r limit ∙ sym (ew ∙ ap (set_refusal r.0 limit) stands.there_is)
+  module _ (limit : ℕ) where
+    abbrev set_bar : Refusal
+    set_bar = set_refusal r.0 limit f.there
 
-    pub set_refused : {e : Edit} → About (Set r limit) r.0 → not d ≡ true → e.refusal ≡ w
-        → Edits s rs ts (Set r limit) r.0 e
-    set_refused a h ee = numbers_refused stands a set_why ed ee h
+    set_is : (ms : List ℕ) → first_bar (wrong_numbers (lent_of s rs ts ms) (ring_of rs ts) (Set r limit)) ≡ set_bar
+    set_is ms = set_numbers stands.start ms r limit ∙ sym (ap (set_refusal r.0 limit) stands.there_is)
 
-    module _ (h : not d ≡ false) {own : List ℕ} (cp : Copied rs own) where
-      may_set : has (relays_in rs n) r.0 ≡ true
-      may_set = sym stands.there_is ∙ set_open r.0 limit there (ap is_done (sym ew) ∙ sym ed ∙ not-false d h)
+    pub set_refused : (why : Refusal) → (set_bar ≡ why) × (is_done why ≡ false) → Edits s rs ts (Set r limit) r.0 (Err why)
+    set_refused = numbers_refused stands (set_about r limit) set_is
 
-      pub set_fits : (at < n) × (n ≤ relay_places own) × Climbs (relay_number own) n
+    module _ (h : set_bar ≡ Done) {own : List ℕ} (cp : Copied rs own) where
+      may_set : has (relays_in rs f.n) r.0 ≡ true
+      may_set = sym stands.there_is ∙ set_open r.0 limit f.there h
+
+      pub set_fits : (f.at < f.n) × (f.n ≤ relay_places own) × Climbs (relay_number own) f.n
       set_fits = change_fits stands cp may_set
 
-      pub set_passed : {e : Edit} → About (Set r limit) r.0 → e.refusal ≡ w → e.n ≡ n → m ≡ e.m
-          → WroteRelays own e.relays n (put (relay_number own at) limit (relays_in own n))
-          × SetBeside relay_number relay_limit own
-          e.relays at limit
-          → e.around ≡ around → Edits s rs ts (Set r limit) r.0 e
-      set_passed a ee en em o ea =
-          numbers_passed stands a set_why ed ee h (unfold subject in here_small stands cp may_set) em
-          (rw en (put_written stands cp may_set r limit refl o.0))
-          (rw (en, ea) (keep_around stands cp o.1))
+      pub set_passed : {own' : List ℕ} → WroteEntries own own' f.n (put (relay_number own f.at) limit (relays_in own f.n))
+          × SetBeside relay_number relay_limit own own' f.at limit
+          → Edits s rs ts (Set r limit) r.0 (Ok (record { n = f.n; m = f.m; relays = own'; around = f.around }))
+      unfolding is_done
+      set_passed o =
+          numbers_passed stands (set_about r limit) set_is (ap is_done h) (unfold subject in here_small stands cp may_set) _ refl
+          (put_written stands cp may_set r limit refl o.0)
+          (keep_around stands cp o.1)

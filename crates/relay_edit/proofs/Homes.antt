@@ -4,7 +4,6 @@
 --   take_asks, take_around      one taken out
 --   keep_around                 one given another limit
 -- Assumes nothing.
-use mathlib.Core.Bool.{Bool}
 use mathlib.Core.List.{List}
 use mathlib.Core.Path.{◌≡◌, sym, ap, ◌∙◌, subst}
 use Prim.Native.Nat.{ℕ, ◌+◌, ◌-◌, ◌^◌, ◌≤◌, ◌<◌}
@@ -20,7 +19,7 @@ use Rattle.meaning.specs.Meaning.{relays_in}
 use Rattle.meaning.specs.Ascending.{Ascending}
 use Rattle.meaning.specs.Rising.{Rises}
 use Rattle.meaning.proofs.Words.{tablet_number_word}
-use Rattle.write.specs.Wrote.{WroteRelays, Place}
+use Rattle.write.specs.Wrote.{WroteEntries, Place}
 use Rattle.place.specs.Places.{SetBeside}
 use Rattle.write.specs.Places.{TookOut}
 use Rattle.ring.proofs.Positions.{position_small}
@@ -29,20 +28,33 @@ use Rattle.ring_edit.specs.Shift.{skip}
 use Rattle.ring_edit.specs.Homes.{Homes, TakenOut, PutsIn, PutIn}
 use Rattle.ring_edit.proofs.Rings.{surveyed_homes, taken_homes, put_homes, kept_homes}
 use Rattle.call_start.proofs.Refusals.{start_rises}
+use Rattle.relay_edit.specs.declared.found.Found.{Found}
 use Rattle.relay_edit.specs.Found.{Stands}
 use Rattle.relay_edit.specs.Edited.{Copied}
 use Rattle.relay_edit.proofs.Copies.{copied_number}
 use Rattle.relay_edit.proofs.Numbers.{deleted_number, inserted_number, inserted_here}
 
-module _ {s : ℕ} {rs ts : List ℕ} {x n m at : ℕ} {there : Bool} {around : Around}
-    (stands : Stands s rs ts x n m at there around) where
+module _ {s : ℕ} {rs ts : List ℕ} {x : ℕ} {f : Found} (stands : Stands s rs ts x f) where
+  abbrev n : ℕ
+  n = f.n
+
+  abbrev m : ℕ
+  m = f.m
+
+  abbrev at : ℕ
+  at = f.at
+
+  abbrev around : Around
+  around = f.around
+
   rises : Rises (positions s) rs ts n m
   rises = start_rises stands.start
 
   abbrev known : Survey
   known =
       record {
-        right = stands.survey.right;
+        n = stands.survey.n;
+        m = stands.survey.m;
         keys = around.keys;
         room = stands.survey.room;
         next = stands.survey.next;
@@ -96,7 +108,7 @@ module _ {s : ℕ} {rs ts : List ℕ} {x n m at : ℕ} {there : Bool} {around : 
     }
 
     pub put_around : {own' : List ℕ} (limit : ℕ) {q : ℕ} {r : Around} → n < most_relays → Place (relay_number own) n x at
-        → WroteRelays own own' (n + 1) (insert x limit (relays_in own n))
+        → WroteEntries own own' (n + 1) (insert x limit (relays_in own n))
         → PutIn (positions s) ts n m at q around.keys around.home r
         → q ≡ (positions s).relay_at x → q < 2 ^ 32 → Homes (positions s) own' ts (n + 1) m r.keys r.home
     put_around {own'} limit few p o t eq lq =

@@ -4,7 +4,7 @@
 --   change_fits, here_small                a relay that is there may be taken out or changed, and its number is of 32 bits
 --   delete_written, put_written            one relay taken out, one given another limit
 -- Assumes nothing.
-use mathlib.Core.Bool.{Bool, true, false}
+use mathlib.Core.Bool.{true, false}
 use mathlib.Core.List.{List}
 use mathlib.Core.Path.{◌≡◌, refl, sym, ap, ap₂, ◌∙◌}
 use Prim.Native.Nat.{ℕ, ◌+◌, ◌-◌, ◌%◌, ◌^◌, ◌≤◌, ◌<◌}
@@ -18,24 +18,32 @@ use Rattle.rule.specs.declared.Call.TheVariants.{Add, Remove, Set}
 use Rattle.rule.specs.Entry.{Entry, has, insert, delete, put}
 use Rattle.rule.specs.Rule.{Ring}
 use Rattle.rule.specs.Calls.{edited}
-use Rattle.tables.specs.Table.{relay_places, relay_whole, relay_number, relay_limit}
+use Rattle.tables.specs.Table.{relay_places, is_whole, relay_number, relay_limit, places_of}
 use Rattle.meaning.specs.Meaning.{relays_in, ring_of}
 use Rattle.meaning.specs.Rising.{Rises}
 use Rattle.meaning.proofs.Words.{relay_number_word}
 use Rattle.write.specs.Tables.{flat, filled}
-use Rattle.write.specs.Wrote.{WroteRelays, Place, Climbs}
+use Rattle.write.specs.Wrote.{WroteEntries, Place, Climbs}
 use Rattle.write.specs.Places.{TookOut, Zeros}
-use Rattle.write.proofs.Filled.{relays_table, relays_taken}
+use Rattle.write.proofs.Filled.{table_wrote, table_taken}
 use Rattle.lookup.proofs.There.{spot_here, spot_above}
-use Rattle.ring_edit.specs.declared.Around.{Around}
 use Rattle.call_start.proofs.Stays.{relays_whole, relays_few_lem}
 use Rattle.call_start.proofs.Refusals.{start_rises, start_ring}
+use Rattle.relay_edit.specs.declared.found.Found.{Found}
 use Rattle.relay_edit.specs.Found.{Stands}
 use Rattle.relay_edit.specs.Edited.{own_numbers, Copied, Written}
 use Rattle.relay_edit.proofs.Copies.{copied_number, copied_limit, copied_relays}
 
-module _ {s : ℕ} {rs ts : List ℕ} {x n m at : ℕ} {there : Bool} {around : Around}
-    (stands : Stands s rs ts x n m at there around) where
+module _ {s : ℕ} {rs ts : List ℕ} {x : ℕ} {f : Found} (stands : Stands s rs ts x f) where
+  abbrev n : ℕ
+  n = f.n
+
+  abbrev m : ℕ
+  m = f.m
+
+  abbrev at : ℕ
+  at = f.at
+
   rises : Rises (positions s) rs ts n m
   rises = start_rises stands.start
 
@@ -43,14 +51,14 @@ module _ {s : ℕ} {rs ts : List ℕ} {x n m at : ℕ} {there : Bool} {around : 
   stands_few = rises.relays_fit.few
 
   pub stands_short : length rs ≤ own_numbers
-  unfolding relay_whole relay_places
+  unfolding is_whole places_of
   stands_short = omega (arith, eqb-true (length rs % 2) 0 (relays_whole stands.start), relays_few_lem stands.start)
 
   -- ---- the copy of the table
 
   module _ {own : List ℕ} (cp : Copied rs own) where
-    own_places : (relay_whole own ≡ true) × (relay_places own ≡ most_relays)
-    unfolding relay_whole relay_places
+    own_places : (is_whole own ≡ true) × (relay_places own ≡ most_relays)
+    unfolding is_whole places_of
     own_places = (rw cp.size refl, omega (arith, cp.size))
 
     own_zeros : (k : ℕ) → n ≤ k → Zeros (relay_number own) (relay_limit own) k (relay_places own)
@@ -81,13 +89,13 @@ module _ {s : ℕ} {rs ts : List ℕ} {x n m at : ℕ} {there : Bool} {around : 
       )
 
       pub insert_written : (r : RelayNumber) (limit : ℕ) {own' : List ℕ} → r.0 ≡ x
-          → WroteRelays own own' (n + 1) (insert x limit (relays_in own n))
+          → WroteEntries own own' (n + 1) (insert x limit (relays_in own n))
           → Written rs ts (Add r limit) (n + 1) own'
       unfolding edited
       insert_written r limit er o = record {
         size = o.size ∙ cp.size;
         relays = o.entries ∙ same;
-        table = relays_table o own_places.0 (omega (arith, own_places.1, relays_few_lem stands.start))
+        table = table_wrote o own_places.0 (omega (arith, own_places.1, relays_few_lem stands.start))
             (own_zeros (n + 1) (omega arith))
             ∙ ap₂ (λ (k : ℕ) (l : List Entry). filled k (flat l)) cp.size same;
         fits = omega arith;
@@ -117,7 +125,7 @@ module _ {s : ℕ} {rs ts : List ℕ} {x n m at : ℕ} {there : Bool} {around : 
       delete_written r er o = record {
         size = o.size ∙ cp.size;
         relays = o.entries ∙ same;
-        table = relays_taken o own_places.0 (omega (arith, here.0)) change_fits.1 (own_zeros n (omega arith))
+        table = table_taken o own_places.0 (omega (arith, here.0)) change_fits.1 (own_zeros n (omega arith))
             ∙ ap₂ (λ (k : ℕ) (l : List Entry). filled k (flat l)) cp.size same;
         fits = omega (arith, rises.relays_fit.there);
       }
@@ -126,13 +134,13 @@ module _ {s : ℕ} {rs ts : List ℕ} {x n m at : ℕ} {there : Bool} {around : 
           same = ap₂ delete (here.1 ∙ sym er) own_relays
 
       pub put_written : (r : RelayNumber) (limit : ℕ) {own' : List ℕ} → r.0 ≡ x
-          → WroteRelays own own' n (put (relay_number own at) limit (relays_in own n))
+          → WroteEntries own own' n (put (relay_number own at) limit (relays_in own n))
           → Written rs ts (Set r limit) n own'
       unfolding edited
       put_written r limit er o = record {
         size = o.size ∙ cp.size;
         relays = o.entries ∙ same;
-        table = relays_table o own_places.0 change_fits.1 (own_zeros n (omega arith))
+        table = table_wrote o own_places.0 change_fits.1 (own_zeros n (omega arith))
             ∙ ap₂ (λ (k : ℕ) (l : List Entry). filled k (flat l)) cp.size same;
         fits = rises.relays_fit.there;
       }

@@ -1,8 +1,9 @@
 -- The relay table as a relay call wants it (document 01, "The rule of placement"), in numbers of the call's own. Assumes nothing.
-use Rattle.std.specs.Prelude.{true, false, List, ◌≡◌, ℕ, ◌*◌, ◌^◌, ◌≤◌, ◌<◌, length, get_or}
+use Rattle.std.specs.Prelude.{true, false, Result, MatchResult, List, ◌≡◌, ℕ, ◌*◌, ◌^◌, ◌≤◌, ◌<◌, length, get_or}
 use Rattle.ring.specs.Most.{most_relays}
 use Rattle.ring.specs.Scheme.{Positions, positions}
 use Rattle.rule.specs.declared.Call.{Call}
+use Rattle.rule.specs.declared.Refusal.{Refusal}
 use Rattle.rule.specs.Rule.{Ring}
 use Rattle.rule.specs.Refusals.{is_done, first_bar}
 use Rattle.rule.specs.Calls.{subject, edited, relay_of, passed, wrong_numbers, refusal}
@@ -11,7 +12,6 @@ use Rattle.survey.specs.declared.Survey.{Survey}
 use Rattle.meaning.specs.Meaning.{relays_in, ring_of, lent_of}
 use Rattle.write.specs.Tables.{flat, filled}
 use Rattle.call_start.specs.Start.{Start}
-use Rattle.ring_edit.specs.declared.Around.{Around}
 use Rattle.ring_edit.specs.Homes.{Homes}
 use Rattle.relay_edit.specs.declared.Edit.{Edit}
 
@@ -38,18 +38,17 @@ pub record Written (rs ts : List ℕ) (c : Call) (n : ℕ) (own : List ℕ) : Ty
   pub fits : n ≤ relay_places rs
 
 -- none of the refusals 1 to 7 applies; the relays that are to be are in ring order, with the tablets' homes
-pub record EditReady (s : ℕ) (rs ts : List ℕ) (c : Call) (n m : ℕ) (own : List ℕ) (around : Around) : Type 0 where
+pub record EditReady (s : ℕ) (rs ts : List ℕ) (c : Call) (e : Edit) : Type 0 where
   pub used : ℕ
   pub survey : Survey
-  pub start : Start s rs ts used m survey
+  pub start : Start s rs ts used e.m survey
   pub small : subject c < 2 ^ 32
   pub numbers : (ms : List ℕ) → is_done (first_bar (wrong_numbers (lent_of s rs ts ms) (ring_of rs ts) c)) ≡ true
-  pub written : Written rs ts c n own
-  pub homes : Homes (positions s) own ts n m around.keys around.home
+  pub written : Written rs ts c e.n e.relays
+  pub homes : Homes (positions s) e.relays ts e.n e.m e.around.keys e.around.home
 
--- what a call about relay r comes to, whatever the move list
-pub record Edits (s : ℕ) (rs ts : List ℕ) (c : Call) (r : ℕ) (e : Edit) : Type 0 where
+-- what a call about relay r comes to, whatever the move list: the edit, or the refusal that applies
+pub record Edits (s : ℕ) (rs ts : List ℕ) (c : Call) (r : ℕ) (e : Result Edit Refusal) : Type 0 where
   pub about : About c r
-  pub refused : is_done e.refusal ≡ false → (ms : List ℕ) → refusal (positions s) (lent_of s rs ts ms) (ring_of rs ts) c
-      ≡ e.refusal
-  pub passed_on : is_done e.refusal ≡ true → EditReady s rs ts c e.n e.m e.relays e.around
+  pub comes : MatchResult e (EditReady s rs ts c)
+      (λ why. ((ms : List ℕ) → refusal (positions s) (lent_of s rs ts ms) (ring_of rs ts) c ≡ why) × (is_done why ≡ false))

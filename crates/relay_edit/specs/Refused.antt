@@ -6,6 +6,10 @@ use Rattle.rule.specs.declared.Refusal.{Refusal}
 use Rattle.rule.specs.declared.Refusal.TheVariants.{NumberZero, TooLarge, NotThere, ThereAlready, NoUnusedPlace}
 use Rattle.rule.specs.Refusals.{bar, first_bar}
 
+-- what adding and setting both begin with
+unfoldable pub numbers_refusal : ℕ → ℕ → Refusal
+numbers_refusal r limit = first_bar (bar (eqb r 0) NumberZero ∷ bar (ltb most_limit limit) TooLarge ∷ [])
+
 unfoldable pub add_refusal : ℕ → ℕ → Bool → Bool → Refusal
 add_refusal r limit there full =
     first_bar (bar (eqb r 0) NumberZero ∷ bar (ltb most_limit limit) TooLarge ∷ bar there ThereAlready

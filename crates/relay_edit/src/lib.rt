@@ -5,43 +5,26 @@
 mod found;
 mod refused;
 
-ghost use Rattle.std.specs.Prelude.{◌≡◌, ◌≤◌, length};
+ghost use Rattle.std.specs.Prelude.{◌≤◌, length};
 ghost use Rattle.rule.specs.declared.Call.TheVariants.{Add, Remove, Set};
 ghost use Rattle.relay_edit.specs.Edited.{own_numbers, Copied, Edits};
 
-// A refusal; or how many relays and tablets there are to be, the relay table, and those relays in ring order with the tablets' homes.
+// How many relays and tablets there are to be, the relay table, and those relays in ring order with the tablets' homes. Arrays with a
+// count: memory is fixed, with no heap.
 #[derive(Drop)]
 pub struct Edit {
-    pub refusal: rule::Refusal,
     pub n: usize,
     pub m: usize,
     pub relays: [u32; tables::RELAY_NUMBERS],
     pub around: ring_edit::Around,
 }
 
-fn no_edit(refusal: rule::Refusal) -> Edit
-    ensures { result.refusal ≡ refusal }
-{
-    let around = found::nowhere();
-    Edit {
-        refusal: refusal,
-        n: 0,
-        m: 0,
-        relays: [0u32; tables::RELAY_NUMBERS],
-        around: around,
-    }
-}
-
 fn copied(relays: &[u32]) -> [u32; tables::RELAY_NUMBERS]
     requires { length relays.now ≤ own_numbers }
     ensures { Copied relays.now result }
 {
-    let mut own = [0u32; tables::RELAY_NUMBERS];
-    let mut i: usize = 0;
-    while i < relays.len() {
-        own[i] = relays[i];
-        i += 1;
-    }
+    let mut own = [0; tables::RELAY_NUMBERS];
+    own[..relays.len()].copy_from_slice(relays);
     own
 }
 
@@ -53,68 +36,43 @@ pub fn edit_add(
     tablets: &[u32],
     r: ring::RelayNumber,
     limit: u32,
-) -> Edit
+) -> Result<Edit, rule::Refusal>
     ensures { Edits scheme relays.now tablets.now (Add r limit) r.0 result }
 {
-    let f = found::find_relay(scheme, relays, tablets, r);
-    let first = f.refusal;
-    let done = rule::done(first);
-    if !done {
-        return no_edit(first);
-    }
-    let n = f.n;
-    let full = tables::relay_places(relays) <= n;
-    let wrong = refused::add_refusal(r, limit, f.there, full);
-    let done = rule::done(wrong);
-    if !done {
-        return no_edit(wrong);
-    }
+    let f = found::find_relay(scheme, relays, tablets, r)?;
+    let full = tables::places(relays) <= f.n;
+    refused::add_refusal(r, limit, f.there, full)?;
     let mut own = copied(relays);
-    let at = f.at;
-    write::insert_relay(&mut own, n, at, r, limit);
-    let m = f.m;
-    let before = f.around;
+    write::insert(&mut own, f.n, f.at, r.0, limit);
     let q = ring::relay_at(scheme, r);
-    let around = ring_edit::put_in(scheme, tablets, before, n, m, at, q);
-    let more = n + 1;
-    Edit {
-        refusal: wrong,
-        n: more,
-        m: m,
+    let around = ring_edit::put_in(scheme, tablets, f.around, f.n, f.m, f.at, q);
+    Ok(Edit {
+        n: f.n + 1,
+        m: f.m,
         relays: own,
-        around: around,
-    }
+        around,
+    })
 }
 
-pub fn edit_remove(scheme: u32, relays: &[u32], tablets: &[u32], r: ring::RelayNumber) -> Edit
+pub fn edit_remove(
+    scheme: u32,
+    relays: &[u32],
+    tablets: &[u32],
+    r: ring::RelayNumber,
+) -> Result<Edit, rule::Refusal>
     ensures { Edits scheme relays.now tablets.now (Remove r) r.0 result }
 {
-    let f = found::find_relay(scheme, relays, tablets, r);
-    let first = f.refusal;
-    let done = rule::done(first);
-    if !done {
-        return no_edit(first);
-    }
-    let n = f.n;
-    let wrong = lookup::missing(r.0, f.there);
-    let done = rule::done(wrong);
-    if !done {
-        return no_edit(wrong);
-    }
+    let f = found::find_relay(scheme, relays, tablets, r)?;
+    refused::remove_refusal(r, f.there)?;
     let mut own = copied(relays);
-    let at = f.at;
-    write::delete_relay(&mut own, n, at);
-    let m = f.m;
-    let less = n - 1;
-    let before = f.around;
-    let around = ring_edit::take_out(before, less, m, at);
-    Edit {
-        refusal: wrong,
-        n: less,
-        m: m,
+    write::delete(&mut own, f.n, f.at);
+    let n = f.n - 1;
+    Ok(Edit {
+        n,
+        m: f.m,
         relays: own,
-        around: around,
-    }
+        around: ring_edit::take_out(f.around, n, f.m, f.at),
+    })
 }
 
 pub fn edit_set(
@@ -123,29 +81,17 @@ pub fn edit_set(
     tablets: &[u32],
     r: ring::RelayNumber,
     limit: u32,
-) -> Edit
+) -> Result<Edit, rule::Refusal>
     ensures { Edits scheme relays.now tablets.now (Set r limit) r.0 result }
 {
-    let f = found::find_relay(scheme, relays, tablets, r);
-    let first = f.refusal;
-    let done = rule::done(first);
-    if !done {
-        return no_edit(first);
-    }
-    let n = f.n;
-    let wrong = refused::set_refusal(r, limit, f.there);
-    let done = rule::done(wrong);
-    if !done {
-        return no_edit(wrong);
-    }
+    let f = found::find_relay(scheme, relays, tablets, r)?;
+    refused::set_refusal(r, limit, f.there)?;
     let mut own = copied(relays);
-    write::limit_relay(&mut own, n, f.at, limit);
-    let around = f.around;
-    Edit {
-        refusal: wrong,
-        n: n,
+    write::change(&mut own, f.n, f.at, limit);
+    Ok(Edit {
+        n: f.n,
         m: f.m,
         relays: own,
-        around: around,
-    }
+        around: f.around,
+    })
 }

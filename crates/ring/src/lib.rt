@@ -2,17 +2,17 @@
 #![tactic(auto)]
 
 ghost use Rattle.std.specs.Prelude.{◌≡◌, ◌^◌, ◌<◌, ◌∷◌};
-ghost use Rattle.ring.specs.Fnv.{mixed, fnv, four_bytes};
+ghost use Rattle.ring.specs.Fnv.{mixed, mixed_all, fnv, four_bytes};
 ghost use Rattle.ring.specs.Scheme.{known, position, positions};
 ghost use Rattle.ring.specs.Clockwise.{clockwise};
 
-#[derive(Clone, Copy)]
+#[derive(Clone, Copy, Debug, PartialEq, Eq, PartialOrd, Ord)]
 pub struct TabletNumber(pub u32);
 
-#[derive(Clone, Copy)]
+#[derive(Clone, Copy, Debug, PartialEq, Eq, PartialOrd, Ord)]
 pub struct RelayNumber(pub u32);
 
-#[derive(Clone, Copy)]
+#[derive(Clone, Copy, Debug, PartialEq, Eq, PartialOrd, Ord)]
 pub struct Position(pub u32);
 
 // How many numbers, and so positions, there are; and the greatest.
@@ -32,67 +32,67 @@ const RELAY_TAG: u8 = 0x52;
 const TABLET_TAG: u8 = 0x54;
 
 // One byte of FNV-1a.
+#[tactic(auto, unfolding(crate::specs::Fnv::mixed))]
 pub fn mix(hash: u32, byte: u8) -> u32
     ensures { result ≡ mixed hash byte }
 {
-    let mixed_in = hash ^ (byte as u32);
-    ((mixed_in as u64) * 16777619 % NUMBERS) as u32
+    (hash ^ u32::from(byte)).wrapping_mul(16777619)
+}
+
+// FNV-1a over bytes, from a hash of what stands before them on.
+#[tactic(auto, using(crate::proofs::Folded::mixed_all_is))]
+fn mix_all(hash: u32, bytes: &[u8]) -> u32
+    ensures { result ≡ mixed_all hash bytes.now }
+{
+    bytes.iter().fold(hash, |h, byte| mix(h, *byte))
 }
 
 // FNV-1a over the bytes of a slice.
+#[tactic(auto, unfolding(crate::specs::Fnv::fnv))]
 pub fn hash(bytes: &[u8]) -> u32
     ensures { result ≡ fnv bytes.now }
 {
-    let mut h: u32 = 2166136261;
-    let mut i = 0;
-    while i < bytes.len() {
-        h = mix(h, bytes[i]);
-        i += 1;
-    }
-    h
+    mix_all(2166136261, bytes)
 }
 
 // FNV-1a over a tag and a number, lowest byte first.
+#[tactic(auto, unfolding(crate::specs::Fnv::fnv, crate::specs::Fnv::mixed_all, crate::specs::Fnv::four_bytes))]
 fn hash_number(tag: u8, n: u32) -> u32
     ensures { result ≡ fnv (tag ∷ four_bytes n) }
 {
-    let b0 = (n % 256) as u8;
-    let b1 = (n / 256 % 256) as u8;
-    let b2 = (n / 65536 % 256) as u8;
-    let b3 = (n / 16777216 % 256) as u8;
-    let h = mix(2166136261, tag);
-    let h0 = mix(h, b0);
-    let h1 = mix(h0, b1);
-    let h2 = mix(h1, b2);
-    mix(h2, b3)
+    mix_all(mix(2166136261, tag), &n.to_le_bytes())
 }
 
-// Is there such a scheme?
+// Is there such a scheme? A scheme stays a number, here and in every call: a call is given any number and refuses what is none, which theorems
+// say of any number.
+#[tactic(auto, unfolding(crate::specs::Scheme::known))]
 pub fn scheme_known(scheme: u32) -> bool
     ensures { result ≡ known scheme }
 {
-    if scheme == 0 {
-        return true;
-    }
-    scheme == 1
+    scheme == 0 || scheme == 1
 }
 
 // Where a number stands on the ring: the one place that tells the schemes apart.
+#[tactic(auto, unfolding(crate::specs::Scheme::position))]
 fn place(scheme: u32, tag: u8, n: u32) -> Position
     ensures { result.0 ≡ position scheme tag n }
 {
     if scheme == 0 {
-        return Position(n);
+        Position(n)
+    } else {
+        Position(hash_number(tag, n))
     }
-    Position(hash_number(tag, n))
 }
 
+// Where a relay stands, and a tablet. Two functions, since a tag belongs to a kind of number: one for any kind would want a trait for it.
+#[tactic(auto, unfolding(crate::specs::Scheme::positions))]
 pub fn relay_at(scheme: u32, r: RelayNumber) -> Position
     ensures { result.0 ≡ (positions scheme).relay_at r.0 }
 {
     place(scheme, RELAY_TAG, r.0)
 }
 
+#[tactic(auto, unfolding(crate::specs::Scheme::positions))]
 pub fn tablet_at(scheme: u32, t: TabletNumber) -> Position
     ensures { result.0 ≡ (positions scheme).tablet_at t.0 }
 {
@@ -100,28 +100,9 @@ pub fn tablet_at(scheme: u32, t: TabletNumber) -> Position
 }
 
 // How far the other position is clockwise from the one, past the top of the ring too.
+#[tactic(auto, unfolding(crate::specs::Clockwise::clockwise))]
 pub fn clockwise(one: Position, other: Position) -> u32
     ensures { result ≡ clockwise one.0 other.0 }
 {
-    std::num::wrapping_sub_u32(other.0, one.0)
-}
-
-// ---- small numbers as indices
-
-pub fn from_u8(byte: u8) -> usize
-    ensures { (result ≡ byte) × (result < 2 ^ 8) }
-{
-    byte as usize
-}
-
-pub fn from_u16(half: u16) -> usize
-    ensures { (result ≡ half) × (result < 2 ^ 16) }
-{
-    half as usize
-}
-
-pub fn from_u32(word: u32) -> usize
-    ensures { (result ≡ word) × (result < 2 ^ 32) }
-{
-    word as usize
+    other.0.wrapping_sub(one.0)
 }

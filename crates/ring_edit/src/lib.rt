@@ -19,15 +19,9 @@ pub struct Around {
     pub home: [u8; ring::MOST_TABLETS],
 }
 
-fn skip(s: usize, k: usize) -> usize
-    requires { k < most_relays }
-    ensures { result ≡ skip s k }
-{
-    if k < s { k } else { k + 1 }
-}
-
 // ---- one relay less
 
+#[tactic(auto, unfolding(crate::specs::Shift::lowered))]
 fn lowered(key: u64, at: usize) -> u64
     ensures { result ≡ lowered at key }
 {
@@ -40,36 +34,26 @@ fn slot_of(keys: &[u64; ring::MOST_RELAYS], n: usize, at: usize) -> usize
     requires { (n ≤ most_relays) × Slot keys.now n at }
     ensures { (result < n) × (slot_relay keys.now result ≡ at) }
 {
-    let mut k: usize = 0;
-    while k < n {
+    for k in 0..n {
         if order::slot_relay(keys, k) == at {
             return k;
         }
-        k += 1;
     }
-    k
+    n
 }
 
-// The keys of the n other relays.
-fn keys_less(
-    keys: &[u64; ring::MOST_RELAYS],
-    n: usize,
-    s: usize,
-    at: usize,
-) -> [u64; ring::MOST_RELAYS]
-    requires { n < most_relays }
-    ensures { KeysLess n s at keys.now result }
+// The key at slot s is left out, and the n others are lowered.
+fn keys_less(keys: &mut [u64; ring::MOST_RELAYS], n: usize, s: usize, at: usize)
+    requires { (n < most_relays) × (s ≤ n) }
+    ensures { KeysLess n s at keys.old keys.new }
 {
-    let mut less = [0u64; ring::MOST_RELAYS];
-    let mut k: usize = 0;
-    while k < n {
-        let from = skip(s, k);
-        less[k] = lowered(keys[from], at);
-        k += 1;
+    keys.copy_within(s + 1..n + 1, s);
+    for key in keys[..n].iter_mut() {
+        *key = lowered(*key, at);
     }
-    less
 }
 
+#[tactic(auto, unfolding(crate::specs::Homes::home_less))]
 fn home_less(s: u8, h: u8) -> u8
     ensures { result ≡ home_less s h }
 {
@@ -77,34 +61,28 @@ fn home_less(s: u8, h: u8) -> u8
 }
 
 fn homes_less(home: &mut [u8; ring::MOST_TABLETS], m: usize, s: u8)
-    requires { (m ≤ most_tablets) × (length home.old ≡ most_tablets) }
+    requires { m ≤ most_tablets }
     ensures { HomesMoved (less_at s) m home.old home.new }
 {
-    let mut j: usize = 0;
-    while j < m {
-        home[j] = home_less(s, home[j]);
-        j += 1;
+    for home in home[..m].iter_mut() {
+        *home = home_less(s, *home);
     }
 }
 
 // The relay at place `at` is taken out, and n are left.
-pub fn take_out(around: Around, n: usize, m: usize, at: usize) -> Around
+pub fn take_out(mut around: Around, n: usize, m: usize, at: usize) -> Around
     requires { (n < most_relays) × (m ≤ most_tablets) × Slot around.keys (n + 1) at }
     ensures { TakenOut n m at around.keys around.home result }
 {
-    let keys = around.keys;
-    let s = slot_of(&keys, n + 1, at);
-    let less = keys_less(&keys, n, s, at);
-    let mut home = around.home;
-    homes_less(&mut home, m, s as u8);
-    Around {
-        keys: less,
-        home: home,
-    }
+    let s = slot_of(&around.keys, n + 1, at);
+    keys_less(&mut around.keys, n, s, at);
+    homes_less(&mut around.home, m, s as u8);
+    around
 }
 
 // ---- one relay more
 
+#[tactic(auto, unfolding(crate::specs::Shift::raised))]
 fn raised(key: u64, at: usize) -> u64
     requires { key < 2 ^ 64 - 1 }
     ensures { result ≡ raised at key }
@@ -113,29 +91,20 @@ fn raised(key: u64, at: usize) -> u64
     if i < at { key } else { key + 1 }
 }
 
-// The keys of the n other relays, and x at slot s.
-fn keys_more(
-    keys: &[u64; ring::MOST_RELAYS],
-    n: usize,
-    s: usize,
-    at: usize,
-    x: u64,
-) -> [u64; ring::MOST_RELAYS]
-    requires { (n < most_relays) × (s ≤ n) × ((k : ℕ) → k < n → get_or keys.now k 0 < 2 ^ 64 - 1) }
-    ensures { KeysMore n s at x keys.now result }
+// The n other keys are raised, and x is put in at slot s.
+fn keys_more(keys: &mut [u64; ring::MOST_RELAYS], n: usize, s: usize, at: usize, x: u64)
+    requires { (n < most_relays) × (s ≤ n) × ((k : ℕ) → k < n → get_or keys.old k 0 < 2 ^ 64 - 1) }
+    ensures { KeysMore n s at x keys.old keys.new }
 {
-    let mut more = [0u64; ring::MOST_RELAYS];
-    let mut k: usize = 0;
-    while k < n {
-        let to = skip(s, k);
-        more[to] = raised(keys[k], at);
-        k += 1;
+    for key in keys[..n].iter_mut() {
+        *key = raised(*key, at);
     }
-    more[s] = x;
-    more
+    keys.copy_within(s..n, s + 1);
+    keys[s] = x;
 }
 
 // The slot behind slot s of n + 1, round the top of the ring.
+#[tactic(auto, unfolding(crate::specs::Homes::slot_after))]
 fn slot_after(n: usize, s: usize) -> usize
     requires { n < most_relays }
     ensures { (result ≡ slot_after n s) × (result < most_relays) }
@@ -143,66 +112,51 @@ fn slot_after(n: usize, s: usize) -> usize
     if s < n { s + 1 } else { 0 }
 }
 
-// Does tablet j come to slot k ahead of slot s?
-fn comes_first(
+// A relay that was put in: it is at slot `slot` of the keys, and the one that was there before is at slot `after` now.
+#[derive(Drop)]
+struct NewRelay<'a> {
     scheme: u32,
-    tablets: &[u32],
-    j: usize,
-    keys: &[u64; ring::MOST_RELAYS],
-    k: usize,
-    s: usize,
-) -> bool
-    requires { (j < tablet_places tablets.now) × (k < most_relays) × (s < most_relays) }
-    ensures { result ≡ sooner (in_slots keys.now)
-        ((positions scheme).tablet_at (tablet_number tablets.now j)) k s }
-{
-    let p = ring::tablet_at(scheme, tables::tablet_number(tablets, j));
-    nearest::sooner(keys, k, s, p)
+    tablets: &'a [u32],
+    keys: &'a [u64; ring::MOST_RELAYS],
+    slot: usize,
+    after: usize,
+    ghost among_the_keys: { (slot < most_relays) × (after < most_relays) },
 }
 
-// The home of tablet j, which was h. The new relay is at slot s, and the one that was there before is at slot k now.
-fn home_more(
-    scheme: u32,
-    tablets: &[u32],
-    j: usize,
-    keys: &[u64; ring::MOST_RELAYS],
-    s: usize,
-    k: usize,
-    h: u8,
-) -> u8
-    requires { (j < tablet_places tablets.now) × (s < most_relays) × (k < most_relays) }
-    ensures { result ≡ home_more keys.now s k
-        ((positions scheme).tablet_at (tablet_number tablets.now j)) h }
-{
-    let was = h as usize;
-    let next = ((was + 1) % ring::MOST_RELAYS) as u8;
-    if was == s {
-        let past = comes_first(scheme, tablets, j, keys, k, s);
-        if past {
-            return next;
-        }
-        return h;
+impl NewRelay<'_> {
+    // Does tablet j come to slot `after` first?
+    fn comes_first(&self, j: usize) -> bool
+        requires { j < tablet_places self.now.tablets.now }
+        ensures { result ≡ sooner (in_slots self.now.keys.now)
+            ((positions self.now.scheme).tablet_at (tablet_number self.now.tablets.now j)) self.now.after self.now.slot }
+    {
+        let p = ring::tablet_at(self.scheme, tables::tablet_number(self.tablets, j));
+        nearest::sooner(self.keys, self.after, self.slot, p)
     }
-    if s < was { next } else { h }
-}
 
-fn homes_more(
-    scheme: u32,
-    tablets: &[u32],
-    home: &mut [u8; ring::MOST_TABLETS],
-    m: usize,
-    keys: &[u64; ring::MOST_RELAYS],
-    s: usize,
-    k: usize,
-)
-    requires { TabletsIn tablets.now m × (length home.old ≡ most_tablets) × (s < most_relays) × (k < most_relays) }
-    ensures { HomesMoved (more_at (positions scheme) tablets.now keys.now s k) m
-        home.old home.new }
-{
-    let mut j: usize = 0;
-    while j < m {
-        home[j] = home_more(scheme, tablets, j, keys, s, k, home[j]);
-        j += 1;
+    // The home of tablet j, which was h.
+    #[tactic(auto, unfolding(crate::specs::Homes::home_more))]
+    fn home_more(&self, j: usize, h: u8) -> u8
+        requires { j < tablet_places self.now.tablets.now }
+        ensures { result ≡ home_more self.now.keys.now self.now.slot self.now.after
+            ((positions self.now.scheme).tablet_at (tablet_number self.now.tablets.now j)) h }
+    {
+        let was = usize::from(h);
+        if self.slot < was || self.slot == was && self.comes_first(j) {
+            h.wrapping_add(1)
+        } else {
+            h
+        }
+    }
+
+    fn homes_more(&self, home: &mut [u8; ring::MOST_TABLETS], m: usize)
+        requires { TabletsIn self.now.tablets.now m }
+        ensures { HomesMoved (more_at (positions self.now.scheme) self.now.tablets.now self.now.keys.now self.now.slot
+            self.now.after) m home.old home.new }
+    {
+        for (j, home) in home[..m].iter_mut().enumerate() {
+            *home = self.home_more(j, *home);
+        }
     }
 }
 
@@ -210,7 +164,7 @@ fn homes_more(
 pub fn put_in(
     scheme: u32,
     tablets: &[u32],
-    around: Around,
+    mut around: Around,
     n: usize,
     m: usize,
     at: usize,
@@ -219,14 +173,16 @@ pub fn put_in(
     requires { PutsIn tablets.now n m at around.keys }
     ensures { PutIn (positions scheme) tablets.now n m at q.0 around.keys around.home result }
 {
-    let keys = around.keys;
-    let x = (q.0 as u64) * ring::NUMBERS + (at as u64);
-    let s = home::advance(&keys, n, 0, x);
-    let more = keys_more(&keys, n, s, at, x);
-    let mut home = around.home;
-    homes_more(scheme, tablets, &mut home, m, &more, s, slot_after(n, s));
-    Around {
-        keys: more,
-        home: home,
-    }
+    let x = u64::from(q.0) * ring::NUMBERS + at as u64;
+    let slot = home::advance(&around.keys, n, 0, x);
+    keys_more(&mut around.keys, n, slot, at, x);
+    let new = NewRelay {
+        scheme,
+        tablets,
+        keys: &around.keys,
+        slot,
+        after: slot_after(n, slot),
+    };
+    new.homes_more(&mut around.home, m);
+    around
 }

@@ -1,13 +1,13 @@
 -- A roster's blocks are right tables with an entry in every place exactly where its content is right.
---   full_refused, full_relays, full_tablets     what the check of the blocks found
---   full_content                                and that this is the content
+--   full_refused    where the check of the blocks refuses, they are no full tables
+--   full_content    full tables are the content
 -- Assumes nothing.
 use mathlib.Core.Bool.{Bool, true, false, ◌&&◌}
 use mathlib.Core.List.{List, [], ◌∷◌}
 use mathlib.Core.Path.{◌≡◌, refl, sym, ap, ◌∙◌}
 use Prim.Native.Nat.{ℕ, zero, suc, ◌%◌, ◌≤◌, ◌<◌}
 use native.Mathlib.Omega.{arith}
-use borrow.Author.Tests.{eqb-true, eq-eqb, ne_eqb, lt-ltb, le-leb}
+use borrow.Author.Tests.{eqb-true, eq-eqb, lt-ltb, le-leb}
 use lib.Dec.{eqb}
 use lib.ListN.{length}
 use Rattle.ring.specs.Most.{most_relays, most_tablets}
@@ -21,42 +21,29 @@ use Rattle.rule.specs.Refusals.{is_done, first_bar}
 use Rattle.rule.specs.Stability.{Rising}
 use Rattle.rule.specs.Facts.{Right}
 use Rattle.rule.proofs.Right as Right
-use Rattle.tables.specs.Table.{relay_places, relay_number, relay_limit, relay_whole, tablet_places, tablet_number, tablet_relay, tablet_whole}
-use Rattle.tables.specs.Shape.{used, relays_used, tablets_used, relay_fits, tablet_fits}
+use Rattle.tables.specs.Table.{relay_places, relay_number, relay_limit, is_whole, tablet_places, tablet_number, tablet_relay, beside_in, number_in, places_of}
+use Rattle.tables.specs.Shape.{used, relays_used, tablets_used, fits_in, used_in}
 use Rattle.meaning.specs.Meaning.{relays_in, tablets_in, ring_of, fit_tables, tables_right, tables_bars, tables_refusal}
 use Rattle.meaning.specs.Ascending.{Ascending}
 use Rattle.meaning.proofs.Places.{places_table}
 use Rattle.meaning.proofs.Fit.{right_ruled}
 use Rattle.meaning.proofs.Right.{same_test}
 use Rattle.meaning.proofs.Shapes.{rest_from}
-use Rattle.survey.specs.declared.Survey.{Survey}
 use Rattle.write.specs.Tables.{flat}
-use Rattle.call_start.specs.Start.{Start}
 use Rattle.roster.specs.Content.{numbered, ring_right}
 use Rattle.roster.specs.Inner.{full_tables}
 use Rattle.write.proofs.Filled.{length_flat}
 use Rattle.roster.proofs.Blocks.{flat_places}
 
--- ---- what the check found
+-- ---- what the check refuses
 
-module _ (s : ℕ) (rs ts : List ℕ) where
-  pub full_refused : known s ≡ true → {r : Refusal} → r ≡ tables_refusal s rs ts → is_done r ≡ false
-      → false ≡ full_tables s rs ts
-  unfolding full_tables tables_refusal tables_bars first_bar is_done
-  full_refused k {r} e h =
-      split (tables_right s rs ts)
-      (λ t. absurd (true_false (sym (ap is_done e ∙ rw (k, t)) ∙ h)))
-      (λ t. rw t)
-
-module _ {s : ℕ} {rs ts : List ℕ} {n m : ℕ} {v : Survey} (b : Start s rs ts n m v) {k : ℕ}
-    (ek : k ≡ relay_places rs) where
-  pub full_relays : (n ≡ k → ⊥) → false ≡ full_tables s rs ts
-  unfolding full_tables
-  full_relays d = rw (b.right, ← b.relays, ← ek, ne_eqb n k d)
-
-  pub full_tablets : n ≡ k → {l : ℕ} → l ≡ tablet_places ts → eqb m l ≡ full_tables s rs ts
-  unfolding full_tables
-  full_tablets d el = rw (b.right, ← b.relays, ← ek, eq-eqb n k d, ← b.tablets, el)
+pub full_refused : (s : ℕ) (rs ts : List ℕ) → known s ≡ true → {why : Refusal}
+    → (tables_refusal s rs ts ≡ why) × (is_done why ≡ false) → false ≡ full_tables s rs ts
+unfolding full_tables tables_refusal tables_bars first_bar is_done
+full_refused s rs ts k w =
+    split (tables_right s rs ts)
+    (λ t. absurd (true_false (sym (ap is_done (sym w.0) ∙ rw (k, t)) ∙ w.1)))
+    (λ t. rw t)
 
 -- ---- that it is the content
 
@@ -90,19 +77,19 @@ module _ (s : ℕ) (es fs : List Entry) (few : length es ≤ most_relays) (fewer
   m = length fs
 
   relay_places_lem : relay_places rs ≡ n
-  unfolding relay_places
+  unfolding places_of
   relay_places_lem = omega (arith, length_flat es)
 
   tablet_places_lem : tablet_places ts ≡ m
-  unfolding tablet_places
+  unfolding places_of
   tablet_places_lem = omega (arith, length_flat fs)
 
   relay_entries : relays_in rs n ≡ es
-  unfolding relay_number relay_limit
+  unfolding number_in beside_in
   relay_entries = flat_places es
 
   tablet_entries : tablets_in ts m ≡ fs
-  unfolding tablet_number tablet_relay
+  unfolding number_in beside_in
   tablet_entries = flat_places fs
 
   module _ (er : relays_used rs ≡ n) (et : tablets_used ts ≡ m) where
@@ -111,7 +98,7 @@ module _ (s : ℕ) (es fs : List Entry) (few : length es ≤ most_relays) (fewer
     full_ring = rw (er, et, relay_entries, tablet_entries)
 
     full_fit : fit_tables rs ts ≡ true
-    unfolding fit_tables relay_fits tablet_fits relay_whole tablet_whole
+    unfolding fit_tables fits_in is_whole
     full_fit =
         rw (
           eq-eqb (length rs % 2) 0 (omega (arith, length_flat es)),
@@ -141,7 +128,7 @@ module _ (s : ℕ) (es fs : List Entry) (few : length es ≤ most_relays) (fewer
       rw (rising_numbered 0 es r.relays.up, rising_numbered 0 fs r.tablets.up, t)
 
   full_from : ring_right s ring ≡ true → full_tables s rs ts ≡ true
-  unfolding full_tables tables_right ring_right relays_used tablets_used
+  unfolding full_tables tables_right ring_right used_in
   full_from e =
       let k₁ : Bool = numbered es in
       let k₂ : Bool = numbered fs in

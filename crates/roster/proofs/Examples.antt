@@ -23,7 +23,6 @@ use Rattle.layout.specs.Numbers as Numbers
 use Rattle.layout.specs.Roster as Roster
 use Rattle.roster.specs.Content as Content
 use Rattle.roster.specs.Reading as Reading
-use Rattle.roster.specs.declared.Reading as Said
 use Rattle.roster.specs.Reading.{after}
 
 -- these numbers as bytes
@@ -31,10 +30,10 @@ abbrev bytes : List ℕ → List ℕ
 bytes [] = []
 bytes (x ∷ xs) = Fnv.four_bytes x ++ bytes xs
 
-abbrev done : ℕ → List ℕ → List ℕ → After Said.Reading (List ℕ × List ℕ)
+abbrev done : ℕ → List ℕ → List ℕ → After Reading.Reading (List ℕ × List ℕ)
 done scheme rs ts = record { reply = record { reply = bare_reply Done; scheme = scheme }; lent = (rs, ts) }
 
-abbrev refused : Refusal → List ℕ → List ℕ → After Said.Reading (List ℕ × List ℕ)
+abbrev refused : Refusal → List ℕ → List ℕ → After Reading.Reading (List ℕ × List ℕ)
 refused why rs ts = record { reply = Reading.refused_reading why; lent = (rs, ts) }
 
 -- relays 10 and 20 of limit 1, and tablets 5 and 7 where scheme 0 has them, under the scheme that is given
@@ -73,8 +72,8 @@ pub reading_examples :
 unfolding Fnv.four_bytes Fnv.mixed Fnv.mixed_all Fnv.fnv Scheme.known Scheme.position Scheme.positions Clockwise.clockwise
     Clockwise.distance Clockwise.sooner Entry.numbers Entry.count Entry.load Entry.first Order.queued Order.order
     Rule.has_room Rule.seat Rule.seat_all Rule.placement Rule.rising Rule.limits_fit Rule.same Rule.is_just Rule.right
-    Refusals.is_done Refusals.first_bar Table.relay_places Table.relay_whole Table.tablet_places Table.tablet_whole
-    Shape.relay_fits Shape.tablet_fits Meaning.places Tables.flat Tables.filled Tables.relay_table Tables.tablet_table
+    Refusals.is_done Refusals.first_bar Table.places_of Table.is_whole
+    Shape.fits_in Meaning.places Tables.flat Tables.filled Tables.relay_table Tables.tablet_table
     Numbers.number_at Roster.field Roster.shaped Roster.shape_right Roster.block Roster.roster_ring Content.numbered
     Content.ring_right Content.content_right Content.tables_fit Reading.refusal Reading.taken Promise.settled Reading.after
 reading_examples = refl

@@ -1,10 +1,8 @@
-pub mod Bars
 pub mod Blocks
 pub mod Contents
 pub mod Examples
 pub mod Fronts
 pub mod Outcomes
-pub mod TakenOver
 pub mod Exactly
 pub mod Unchanged
 pub mod Turns

@@ -1,103 +1,70 @@
 -- From what a reading finds to what it promises.
---   Open, open_done, open_refused     past the refusals that come before the content, or refused by one of them
---   open_few, open_room               the blocks fit scratch, they are there, and the lent tables can take them
---   over_wrong, over_right            the content is wrong, and the reading refused, or right, and the tables are written
+--   refused_answers            a reading that is refused leaves what is lent
+--   open_few, open_room        the blocks fit scratch, they are there, and the lent tables can take them
+--   over_wrong, over_right     the content is wrong, and the reading refused, or right, and the tables are written
 -- Assumes nothing.
 use mathlib.Core.Bool.{Bool, true, false, not, ◌&&◌}
 use mathlib.Core.List.{List, [], ◌∷◌}
 use mathlib.Core.Path.{◌≡◌, refl, sym, ap, ◌∙◌}
 use Prim.Native.Nat.{ℕ, ◌*◌, ◌≤◌}
 use native.Mathlib.Omega.{arith}
-use borrow.Author.Tests.{leb-true, not-true, not-false}
+use borrow.Author.Tests.{leb-true}
 use lib.Dec.{leb}
 use lib.ListN.{length}
-use Rattle.ring.specs.Scheme.{known}
-use Rattle.ring.proofs.Tests.{split, true_false, and_left, and_right}
+use Rattle.ring.proofs.Tests.{and_left, and_right}
 use Rattle.rule.specs.declared.Refusal.{Refusal}
 use Rattle.rule.specs.declared.Refusal.TheVariants.{Done, RosterContentWrong}
 use Rattle.rule.specs.Refusals.{is_done, bare_reply, bar, first_bar}
-use Rattle.tables.specs.Table.{relay_places, tablet_places}
+use Rattle.tables.specs.Table.{relay_places, tablet_places, places_of}
 use Rattle.tables.specs.Shape.{relay_fits, tablet_fits}
 use Rattle.promise.specs.Promise.{Answers}
 use Rattle.promise.proofs.OneAnswer as Promise
-use Rattle.write.specs.Tables.{flat, relay_table, tablet_table}
+use Rattle.write.specs.Tables.{relay_table, tablet_table}
 use Rattle.layout.specs.declared.Trailer.{Trailer}
-use Rattle.layout.specs.Roster.{shape_right, roster_scheme, entry_bytes, block, roster_ring, Shape}
-use Rattle.layout.specs.Opened.{trailer_of}
-use Rattle.layout.proofs.Trailers.{Says, trailer_right, trailer_says, shape_is, shape_ring}
+use Rattle.layout.specs.Roster.{relay_count, tablet_count, roster_scheme, entry_bytes, block, roster_ring, Shape}
+use Rattle.layout.specs.Opened.{opened}
+use Rattle.layout.proofs.Trailers.{shape_is, shape_ring}
 use Rattle.layout.proofs.Rows.{block_length}
-use Rattle.roster.specs.declared.Reading.{Reading}
 use Rattle.roster.specs.Content.{content_right, tables_fit}
 use Rattle.roster.specs.Reading.{refusal, taken, after, refused_reading}
-use Rattle.roster.specs.Inner.{early_refusal, full_tables, Room, TakenOver}
+use Rattle.roster.specs.Inner.{Open, full_blocks, Room, TakenOver, NotTaken}
 use Rattle.roster.proofs.Contents.{full_content}
 
--- ---- the promise of a refused reading
+-- ---- the promise of a refused reading, and of one that is taken
 
 module _ (b rs ts : List ℕ) where
-  refused_answers : (why : Refusal) → refusal b rs ts ≡ why → is_done why ≡ false → {r : Reading}
-      → r ≡ refused_reading why → Answers (after b rs ts) r (rs, ts)
+  pub refused_answers : {why : Refusal} → (refusal b rs ts ≡ why) × (is_done why ≡ false)
+      → Answers (after b rs ts) (refused_reading why) (rs, ts)
   unfolding after
-  refused_answers why e h er =
-      Promise.refused_answers (refusal b rs ts) (refused_reading (refusal b rs ts)) (rs, ts) _ (ap is_done e ∙ h)
-      (er ∙ ap refused_reading (sym e))
+  refused_answers w =
+      Promise.refused_answers (refusal b rs ts) (refused_reading (refusal b rs ts)) (rs, ts) _ (ap is_done w.0 ∙ w.1)
+      (ap refused_reading (sym w.0))
 
-  taken_answers : refusal b rs ts ≡ Done → {r : Reading} {rs' ts' : List ℕ} → r.reply ≡ bare_reply Done → r.scheme
-      ≡ roster_scheme b
+  taken_answers : refusal b rs ts ≡ Done → {scheme : ℕ} {rs' ts' : List ℕ} → scheme ≡ roster_scheme b
       → rs' ≡ relay_table (length rs) (roster_ring b) → ts' ≡ tablet_table (length ts) (roster_ring b)
-      → Answers (after b rs ts) r (rs', ts')
+      → Answers (after b rs ts) (record { reply = bare_reply Done; scheme = scheme }) (rs', ts')
   unfolding after taken is_done
-  taken_answers e er es ers ets =
+  taken_answers e es ers ets =
       Promise.done_answers (refusal b rs ts) (refused_reading (refusal b rs ts)) (rs, ts) (taken b rs ts) (ap is_done e)
-      (record { reply = λ i. record { reply = er i; scheme = es i }; lent = λ i. (ers i, ets i) })
+      (record { reply = λ i. record { reply = bare_reply Done; scheme = es i }; lent = λ i. (ers i, ets i) })
 
--- ---- the refusals before the content
-
-pub record Open (b rs ts : List ℕ) (t : Trailer) : Type 0 where
-  pub shape : shape_right b ≡ true
-  pub known : known t.scheme ≡ true
-  pub fit : tables_fit t.relays t.tablets rs ts ≡ true
-  pub says : Says b t
-
-module _ (b rs ts : List ℕ) {t : Trailer} (o : t ≡ trailer_of b) {bar : Refusal}
-    (e : bar ≡ early_refusal t.right t.scheme t.relays t.tablets rs ts)
-    {done : Bool} (ed : done ≡ is_done bar) where
-  pub open_done : not done ≡ false → Open b rs ts t
-  unfolding early_refusal first_bar is_done
-  open_done h =
-      let d : is_done bar ≡ true = sym ed ∙ not-false done h in
-      split t.right
-      (λ u. split (known t.scheme)
-      (λ v. split (tables_fit t.relays t.tablets rs ts)
-      (λ w. record { shape = sym (trailer_right b o) ∙ u; known = v; fit = w; says = trailer_says b o u })
-      (λ w. absurd (true_false (sym d ∙ ap is_done e ∙ rw (u, v, w)))))
-      (λ v. absurd (true_false (sym d ∙ ap is_done e ∙ rw (u, v)))))
-      (λ u. absurd (true_false (sym d ∙ ap is_done e ∙ rw u)))
-
-  open_why : is_done bar ≡ false → refusal b rs ts ≡ bar
-  unfolding refusal early_refusal first_bar is_done
-  open_why d =
-      split t.right
-      (λ u.
-      let s : Says b t = trailer_says b o u in
-      let a : shape_right b ≡ true = sym (trailer_right b o) ∙ u in
-      split (known t.scheme)
-      (λ v. split (tables_fit t.relays t.tablets rs ts)
-      (λ w. absurd (true_false (sym (ap is_done e ∙ rw (u, v, w)) ∙ d)))
-      (λ w. rw (e, u, v, w, a, ← s.scheme, v, ← s.relays, ← s.tablets, w)))
-      (λ v. rw (e, u, v, a, ← s.scheme, v)))
-      (λ u. rw (e, u, sym (trailer_right b o) ∙ u))
-
-  pub open_refused : not done ≡ true → {r : Reading} → r ≡ refused_reading bar → Answers (after b rs ts) r (rs, ts)
-  open_refused h er =
-      let d : is_done bar ≡ false = sym ed ∙ not-true done h in
-      refused_answers b rs ts bar (open_why d) d er
-
--- ---- past them
+-- ---- past the refusals before the content
 
 module _ {b rs ts : List ℕ} {t : Trailer} (o : Open b rs ts t) where
   shape : Shape b
   shape = shape_is b o.shape
+
+  relays_say : t.relays ≡ relay_count b
+  unfolding opened
+  relays_say = ap (λ (x : Trailer). x.relays) o.says
+
+  tablets_say : t.tablets ≡ tablet_count b
+  unfolding opened
+  tablets_say = ap (λ (x : Trailer). x.tablets) o.says
+
+  scheme_says : t.scheme ≡ roster_scheme b
+  unfolding opened
+  scheme_says = ap (λ (x : Trailer). x.scheme) o.says
 
   fits : (t.relays ≤ relay_places rs) × (t.tablets ≤ tablet_places ts)
   unfolding tables_fit
@@ -111,14 +78,14 @@ module _ {b rs ts : List ℕ} {t : Trailer} (o : Open b rs ts t) where
 
   -- two numbers to an entry
   pub open_few : (2 * t.relays ≤ 512) × (2 * t.tablets ≤ 8192)
-  open_few = (omega (arith, shape.relays, o.says.relays), omega (arith, shape.tablets, o.says.tablets))
+  open_few = (omega (arith, shape.relays, relays_say), omega (arith, shape.tablets, tablets_say))
 
   pub open_room : {own own₂ : List ℕ} → length own ≡ 2 * t.relays → length own₂ ≡ 2 * t.tablets
       → Room b t.relays t.tablets own own₂ rs ts
-  unfolding relay_places tablet_places
+  unfolding places_of
   open_room e e₂ =
       record {
-        there = omega (arith, shape.size, o.says.relays, o.says.tablets);
+        there = omega (arith, shape.size, relays_say, tablets_say);
         scratch = e;
         scratch₂ = e₂;
         relays = omega (arith, fits.0);
@@ -130,46 +97,41 @@ module _ {b rs ts : List ℕ} {t : Trailer} (o : Open b rs ts t) where
     tablets = block b (entry_bytes * t.relays)
         t.tablets;
   }
-  open_ring = shape_ring b shape ∙ rw (o.says.relays, o.says.tablets)
+  open_ring = shape_ring b shape ∙ rw (relays_say, tablets_say)
 
-  open_content : full_tables t.scheme (flat (block b 0 t.relays))
-      (flat (block b (entry_bytes * t.relays) t.tablets)) ≡ content_right b
-  unfolding content_right
+  open_content : full_blocks b t ≡ content_right b
+  unfolding full_blocks content_right
   open_content =
       full_content t.scheme (block b 0 t.relays) (block b (entry_bytes * t.relays) t.tablets)
-      (omega (arith, block_length b 0 t.relays, shape.relays, o.says.relays))
-      (omega (arith, block_length b (entry_bytes * t.relays) t.tablets, shape.tablets, o.says.tablets))
-      ∙ rw (open_ring, o.says.scheme)
+      (omega (arith, block_length b 0 t.relays, shape.relays, relays_say))
+      (omega (arith, block_length b (entry_bytes * t.relays) t.tablets, shape.tablets, tablets_say))
+      ∙ rw (open_ring, scheme_says)
 
-  module _ {rs' ts' : List ℕ} {r : Bool} (w : TakenOver b t.scheme t.relays t.tablets rs ts rs' ts' r) where
-    why_content : (why : Refusal) → first_bar (bar (not r) RosterContentWrong ∷ []) ≡ why → refusal b rs ts ≡ why
-    unfolding refusal first_bar
-    why_content why e =
-        rw (
-          o.shape,
-          ← o.says.scheme,
-          o.known,
-          ← o.says.relays,
-          ← o.says.tablets,
-          o.fit,
-          ← open_content,
-          ← w.full,
-        )
-        e
+  why_content : (full : Bool) → full_blocks b t ≡ full
+      → refusal b rs ts ≡ first_bar (bar (not full) RosterContentWrong ∷ [])
+  unfolding refusal first_bar
+  why_content full e =
+      rw (
+        o.shape,
+        ← scheme_says,
+        o.known,
+        ← relays_say,
+        ← tablets_say,
+        o.fit,
+        ← open_content,
+        e,
+      )
 
-    pub over_wrong : not r ≡ true → {x : Reading} → x ≡ refused_reading RosterContentWrong
-        → Answers (after b rs ts) x (rs', ts')
+  module _ {rs' ts' : List ℕ} where
+    pub over_wrong : {why : Refusal} → (why ≡ RosterContentWrong) × NotTaken b t rs ts rs' ts'
+        → Answers (after b rs ts) (refused_reading why) (rs', ts')
     unfolding first_bar is_done
-    over_wrong h ex =
-        let f : r ≡ false = not-true r h in
-        let er : rs' ≡ rs = w.relays ∙ rw f in
-        let et : ts' ≡ ts = w.tablets ∙ rw f in
-        rw (er, et) (refused_answers b rs ts RosterContentWrong (why_content RosterContentWrong (rw h)) refl ex)
+    over_wrong w =
+        rw (w.1.relays, w.1.tablets, w.0)
+        (refused_answers b rs ts (why_content false w.1.full, refl))
 
-    pub over_right : not r ≡ false → {x : Reading} → x.reply ≡ bare_reply Done → x.scheme ≡ t.scheme
-        → Answers (after b rs ts) x (rs', ts')
+    pub over_right : TakenOver b t rs ts rs' ts'
+        → Answers (after b rs ts) (record { reply = bare_reply Done; scheme = t.scheme }) (rs', ts')
     unfolding first_bar relay_table tablet_table
-    over_right h er es =
-        let f : r ≡ true = not-false r h in
-        taken_answers b rs ts (why_content Done (rw h)) er (es ∙ o.says.scheme) (w.relays ∙ rw (f, open_ring))
-        (w.tablets ∙ rw (f, open_ring))
+    over_right w =
+        taken_answers b rs ts (why_content true w.full) scheme_says (w.relays ∙ rw open_ring) (w.tablets ∙ rw open_ring)

@@ -1,19 +1,22 @@
 -- Reading replies with 0 for the relay, the relays passed and the moves, refused or done; and a refused reading leaves the lent tables as they were,
 -- with 0 as the scheme (document 01, "Replies", "Roster file").
 --   reply_zeros, refused_stays
+--   results_one    and two results that come to one reading are equal
 -- Assumes nothing.
 use mathlib.Core.Bool.{false}
 use mathlib.Core.List.{List}
 use mathlib.Core.Path.{◌≡◌, refl, sym, ap, ◌∙◌}
 use Prim.Native.Nat.{ℕ}
-use Rattle.ring.proofs.Tests.{split}
+use Rattle.std.specs.Prelude.{Result, Ok, Err, IfErr}
+use Rattle.ring.proofs.Tests.{split, true_false}
+use Rattle.rule.specs.declared.Refusal.TheVariants.{Done}
+use Rattle.rule.specs.declared.Reply.{Reply}
 use Rattle.rule.specs.declared.Refusal.{Refusal}
 use Rattle.rule.specs.Refusals.{is_done, bare_reply}
 use Rattle.promise.specs.Promise.{Answers}
 use Rattle.promise.proofs.OneAnswer as Promise
 use Rattle.promise.proofs.OneAnswer.{settled_done, settled_refused}
-use Rattle.roster.specs.declared.Reading.{Reading}
-use Rattle.roster.specs.Reading.{refusal, taken, refused_reading, after}
+use Rattle.roster.specs.Reading.{Reading, refusal, taken, refused_reading, reading_of, after}
 
 module _ (b rs ts : List ℕ) {r : Reading} {l : List ℕ × List ℕ} (a : Answers (after b rs ts) r l) where
   abbrev why : Refusal
@@ -38,3 +41,14 @@ module _ (b rs ts : List ℕ) {r : Reading} {l : List ℕ × List ℕ} (a : Answ
       Promise.refused_stays why (refused_reading why) (rs, ts) (taken b rs ts) (λ x. x.reply.refusal)
       (λ _. refl) a f in
       (ap (λ (x : Reading). x.scheme) e.0, e.1)
+
+not_refused : {why : Refusal} → bare_reply Done ≡ bare_reply why → is_done why ≡ false → ⊥
+unfolding is_done
+not_refused e f = true_false (ap (λ (r : Reply). is_done r.refusal) e ∙ f)
+
+pub results_one : (x y : Result ℕ Refusal) → reading_of x ≡ reading_of y → IfErr x (λ why. is_done why ≡ false)
+    → IfErr y (λ why. is_done why ≡ false) → x ≡ y
+results_one (Ok x) (Ok y) e f g = ap (λ (r : Reading). Ok r.scheme) e
+results_one (Ok x) (Err y) e f g = absurd (not_refused (ap (λ (r : Reading). r.reply) e) g)
+results_one (Err x) (Ok y) e f g = absurd (not_refused (ap (λ (r : Reading). r.reply) (sym e)) f)
+results_one (Err x) (Err y) e f g = ap (λ (r : Reading). Err r.reply.refusal) e

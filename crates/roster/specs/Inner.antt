@@ -1,21 +1,21 @@
 -- What the parts of a reading promise one another (document 01, "Roster file", "Replies"). Assumes nothing.
-use Rattle.std.specs.Prelude.{Bool, not, ◌&&◌, cond, List, [], ◌∷◌, ◌≡◌, ℕ, ◌*◌, ◌+◌, ◌≤◌, eqb, length}
+use Rattle.std.specs.Prelude.{Bool, true, false, ◌&&◌, List, ◌≡◌, ℕ, ◌*◌, ◌+◌, ◌≤◌, eqb, length}
 use Rattle.ring.specs.Scheme.{known}
-use Rattle.rule.specs.declared.Refusal.{Refusal}
-use Rattle.rule.specs.declared.Refusal.TheVariants.{SchemeUnknown, RosterShapeWrong, OutputUnfit}
-use Rattle.rule.specs.Refusals.{bar, first_bar}
 use Rattle.tables.specs.Table.{relay_places, tablet_places}
 use Rattle.tables.specs.Shape.{relays_used, tablets_used}
 use Rattle.meaning.specs.Meaning.{tables_right}
 use Rattle.write.specs.Tables.{flat, filled}
-use Rattle.layout.specs.Roster.{entry_bytes, block}
+use Rattle.layout.specs.declared.Trailer.{Trailer}
+use Rattle.layout.specs.Roster.{entry_bytes, shape_right, block}
+use Rattle.layout.specs.Opened.{opened}
 use Rattle.roster.specs.Content.{tables_fit}
 
--- the refusals that come before the content
-unfoldable pub early_refusal : Bool → ℕ → ℕ → ℕ → List ℕ → List ℕ → Refusal
-early_refusal shape scheme n m rs ts =
-    first_bar (bar (not shape) RosterShapeWrong ∷ bar (not (known scheme)) SchemeUnknown ∷ bar
-    (not (tables_fit n m rs ts)) OutputUnfit ∷ [])
+-- past the refusals that come before the content: what the trailer says
+pub record Open (b rs ts : List ℕ) (t : Trailer) : Type 0 where
+  pub shape : shape_right b ≡ true
+  pub says : t ≡ opened b
+  pub known : known t.scheme ≡ true
+  pub fit : tables_fit t.relays t.tablets rs ts ≡ true
 
 -- right tables with an entry in every place
 unfoldable pub full_tables : ℕ → List ℕ → List ℕ → Bool
@@ -30,8 +30,18 @@ pub record Room (b : List ℕ) (n m : ℕ) (own own₂ rs ts : List ℕ) : Type 
   pub relays : 2 * n ≤ length rs
   pub tablets : 2 * m ≤ length ts
 
--- the bytes' first n entries and the m behind them: are they full tables? If so, they stand in what is lent, with zeros behind them
-pub record TakenOver (b : List ℕ) (scheme n m : ℕ) (rs ts rs' ts' : List ℕ) (r : Bool) : Type 0 where
-  pub full : r ≡ full_tables scheme (flat (block b 0 n)) (flat (block b (entry_bytes * n) m))
-  pub relays : rs' ≡ cond r (filled (length rs) (flat (block b 0 n))) rs
-  pub tablets : ts' ≡ cond r (filled (length ts) (flat (block b (entry_bytes * n) m))) ts
+-- the bytes' first entries and those behind them: are they full tables?
+unfoldable pub full_blocks : List ℕ → Trailer → Bool
+full_blocks b t = full_tables t.scheme (flat (block b 0 t.relays)) (flat (block b (entry_bytes * t.relays) t.tablets))
+
+-- if so, they stand in what is lent, with zeros behind them
+pub record TakenOver (b : List ℕ) (t : Trailer) (rs ts rs' ts' : List ℕ) : Type 0 where
+  pub full : full_blocks b t ≡ true
+  pub relays : rs' ≡ filled (length rs) (flat (block b 0 t.relays))
+  pub tablets : ts' ≡ filled (length ts) (flat (block b (entry_bytes * t.relays) t.tablets))
+
+-- if not, what is lent stays
+pub record NotTaken (b : List ℕ) (t : Trailer) (rs ts rs' ts' : List ℕ) : Type 0 where
+  pub full : full_blocks b t ≡ false
+  pub relays : rs' ≡ rs
+  pub tablets : ts' ≡ ts

@@ -8,12 +8,12 @@ ghost use Rattle.tables.specs.Placement.{room_less};
 ghost use Rattle.order.specs.Keys.{slot_relay};
 ghost use Rattle.row.specs.Row.{slot_room, Leads, Row, Redirected, Takes};
 
+#[tactic(auto, unfolding(crate::specs::Row::slot_room))]
 fn room_at(keys: &[u64; ring::MOST_RELAYS], room: &[u32; ring::MOST_RELAYS], k: usize) -> u32
     requires { k < most_relays }
     ensures { result ≡ slot_room keys.now room.now k }
 {
-    let i = order::slot_relay(keys, k);
-    room[i]
+    room[order::slot_relay(keys, k)]
 }
 
 // The first slot with room of all; the first slot where none has room.
@@ -21,12 +21,10 @@ fn lowest(keys: &[u64; ring::MOST_RELAYS], room: &[u32; ring::MOST_RELAYS], n: u
     requires { n ≤ most_relays }
     ensures { Leads keys.now room.now n n result }
 {
-    let mut k: usize = 0;
-    while k < n {
+    for k in 0..n {
         if 0 < room_at(keys, room, k) {
             return k as u8;
         }
-        k += 1;
     }
     0
 }
@@ -60,9 +58,7 @@ pub fn first_row(
     let mut next = [0u8; ring::MOST_RELAYS];
     let mut lead = lowest(keys, room, n);
     next[n % ring::MOST_RELAYS] = lead;
-    let mut k = n;
-    while 0 < k {
-        k -= 1;
+    for k in (0..n).rev() {
         lead = nearer(keys, room, n, k, lead);
         next[k] = lead;
     }
@@ -73,30 +69,17 @@ pub fn first_row(
 pub fn led_to(next: &[u8; ring::MOST_RELAYS], h: usize) -> usize
     ensures { (result ≡ slice_index next.now (h % most_relays)) × (result < most_relays) }
 {
-    ring::from_u8(next[h % ring::MOST_RELAYS])
-}
-
-// x, and where it is k, the number that lies `by` further on round 256.
-fn instead(x: u8, k: u8, by: u8) -> u8
-    ensures { result ≡ (if nat_eq x k then (k + by) % most_relays else x) }
-{
-    if x == k {
-        std::num::wrapping_add_u8(x, by)
-    } else {
-        x
-    }
+    usize::from(next[h % ring::MOST_RELAYS])
 }
 
 // Whoever was led to slot k is led to another.
 fn redirect(next: &mut [u8; ring::MOST_RELAYS], k: u8, to: u8)
-    requires { length next.old ≡ most_relays }
     ensures { Redirected most_relays k to next.old next.new }
 {
-    let by = std::num::wrapping_sub_u8(to, k);
-    let mut i: usize = 0;
-    while i < ring::MOST_RELAYS {
-        next[i] = instead(next[i], k, by);
-        i += 1;
+    for x in next.iter_mut() {
+        if *x == k {
+            *x = to;
+        }
     }
 }
 
@@ -113,9 +96,8 @@ pub fn take(
         × Row keys.now room.new n 0 next.new }
 {
     let i = order::slot_relay(keys, k);
-    let left = room[i] - 1;
-    room[i] = left;
-    let full = left == 0;
+    room[i] -= 1;
+    let full = room[i] == 0;
     if full {
         let to = led_to(next, k + 1);
         redirect(next, k as u8, to as u8);

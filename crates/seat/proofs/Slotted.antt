@@ -130,12 +130,12 @@ module _ {s : ℕ} {rs ts : List ℕ} {n m : ℕ} {v : Survey} (b : Start s rs t
         (steps_to n at_home.slot slot_of)
         ∙ sym (from_home slot_of slot_within)
 
-  pub start_slotted : Slotted ts n m v.home v.slot
-  start_slotted =
-      record {
-        relays_few = rises.relays_fit.few;
-        tablets_fit = rises.tablets_fit;
-        numbers = rises.tablets;
-        homes = home_within;
-        slots = slot_within;
-      }
+pub start_slotted : {s : ℕ} {rs ts : List ℕ} {v : Survey} → Start s rs ts v.n v.m v → Slotted ts v
+start_slotted b =
+    record {
+      relays_few = (start_rises b).relays_fit.few;
+      tablets_fit = (start_rises b).tablets_fit;
+      numbers = (start_rises b).tablets;
+      homes = home_within b;
+      slots = slot_within b;
+    }

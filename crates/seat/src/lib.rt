@@ -2,59 +2,48 @@
 // order, which are the steps from its home to its relay's slot.
 #![tactic(auto)]
 
-ghost use Rattle.std.specs.Prelude.{◌≡◌, ◌≤◌};
+ghost use Rattle.std.specs.Prelude.{◌≡◌, ◌≤◌, false, MatchResult};
 ghost use Rattle.ring.specs.Most.{most_relays};
+ghost use Rattle.rule.specs.declared.Refusal.TheVariants.{Done};
+ghost use Rattle.rule.specs.Refusals.{is_done};
 ghost use Rattle.slots.specs.Slots.{steps_to};
-ghost use Rattle.seat.specs.Seat.{Slotted, SeatOf};
+ghost use Rattle.seat.specs.Seat.{Slotted, Found, seat_refusal};
 
 // How many steps clockwise slot k is from slot h, of n.
 pub fn steps_to(n: usize, h: u8, k: u8) -> usize
     requires { (n ≤ most_relays) × (h ≤ n) }
     ensures { result ≡ steps_to n h k }
 {
-    let from = h as usize;
-    let to = k as usize;
+    let from = usize::from(h);
+    let to = usize::from(k);
     if from <= to { to - from } else { to + n - from }
 }
 
-// Why there is no seat, or that there is one, and then the seat.
+// The seat of a tablet.
 #[derive(Drop)]
 pub struct Seat {
-    pub refusal: rule::Refusal,
     pub at: usize,
     pub relay: ring::RelayNumber,
     pub passed: u32,
 }
 
-// The seat of tablet t among the m in use, where `home` and `slot` have the homes and the relays' slots.
-pub fn seat_of<'a>(
+// The seat of tablet t among those of a survey, or why there is none.
+pub fn seat_of(
     tablets: &[u32],
-    n: usize,
-    m: usize,
-    home: &'a [u8; ring::MOST_TABLETS],
-    slot: &'a [u8; ring::MOST_TABLETS],
+    survey: &survey::Survey,
     t: ring::TabletNumber,
-) -> Seat
-    requires { Slotted tablets.now n m home.now slot.now }
-    ensures { SeatOf tablets.now n m home.now slot.now t.0 result }
+) -> Result<Seat, rule::Refusal>
+    requires { Slotted tablets.now survey.now }
+    ensures { MatchResult result
+        (λ seat. (seat_refusal tablets.now survey.now t.0 ≡ Done)
+        × Found tablets.now survey.now t.0 seat)
+        (λ why. (seat_refusal tablets.now survey.now t.0 ≡ why) × (is_done why ≡ false)) }
 {
-    let at = lookup::tablet_spot(tablets, m, t);
-    let there = lookup::tablet_there(tablets, m, at, t);
-    let refusal = lookup::missing(t.0, there);
-    let done = rule::done(refusal);
-    if !done {
-        return Seat {
-            refusal: refusal,
-            at: 0,
-            relay: ring::RelayNumber(0),
-            passed: 0,
-        };
-    }
-    let passed = steps_to(n, home[at], slot[at]);
-    Seat {
-        refusal: refusal,
-        at: at,
+    let at = lookup::found(tablets, survey.m, t.0)?;
+    let passed = steps_to(survey.n, survey.home[at], survey.slot[at]);
+    Ok(Seat {
+        at,
         relay: tables::tablet_relay(tablets, at),
         passed: passed as u32,
-    }
+    })
 }

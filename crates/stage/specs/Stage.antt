@@ -1,9 +1,7 @@
 -- Where a run of `watch` stands, and what it says to a line that is no call (document 01, "A drill to prove"; docs/DECISIONS.md, reading 9): a
 -- right first line is echoed, any line of another form is answered `?`, and such a first line ends the run. Bytes are their numbers in ASCII:
 -- 10 ends a line, 63 is `?`. Assumes nothing.
-use Rattle.std.specs.Prelude.{Bool, true, false, List, [], ◌∷◌, ◌++◌, ◌≡◌, ℕ}
-use Rattle.line.specs.declared.First as firsts
-use Rattle.line.specs.declared.First.TheVariants as names
+use Rattle.std.specs.Prelude.{Bool, true, false, List, [], ◌∷◌, ◌++◌, Option, Some, None, ◌≡◌, ℕ}
 use Rattle.text.specs.Puts.{Puts}
 use Rattle.stage.specs.declared.Stage.{Stage}
 use Rattle.stage.specs.declared.Stage.TheVariants.{First, Under, Over}
@@ -30,9 +28,9 @@ unfoldable pub other : Stage → Said
 other next = says next (63 ∷ 10 ∷ [])
 
 -- a first line, and the scheme that it names
-unfoldable pub first : List ℕ → firsts.First → Said
-first l (names.Scheme s) = says (Under s) (l ++ (10 ∷ []))
-first l names.Other = other Over
+unfoldable pub first : List ℕ → Option ℕ → Said
+first l (Some s) = says (Under s) (l ++ (10 ∷ []))
+first l None = other Over
 
 -- ---- the promise
 

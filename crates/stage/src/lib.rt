@@ -26,12 +26,7 @@ pub struct Standing {
 pub fn over(at: Standing) -> bool
     ensures { result ≡ is_over at.stage }
 {
-    let stage = at.stage;
-    match stage {
-        Stage::First => false,
-        Stage::Under(_) => false,
-        Stage::Over => true,
-    }
+    matches!(at.stage, Stage::Over)
 }
 
 // A line of another form is answered by `?`.
@@ -42,7 +37,7 @@ pub fn other_line(answer: &mut [u8], next: Stage) -> Standing
     Standing {
         stage: next,
         kept: 0,
-        due: due,
+        due,
     }
 }
 
@@ -51,14 +46,14 @@ pub fn first_line(answer: &mut [u8], line: &[u8]) -> Standing
         answer.new }
 {
     match line::scheme_of(line) {
-        line::First::Scheme(scheme) => {
+        Some(scheme) => {
             let due = answer::echo(answer, line);
             Standing {
                 stage: Stage::Under(scheme),
                 kept: 0,
-                due: due,
+                due,
             }
         }
-        line::First::Other => other_line(answer, Stage::Over),
+        None => other_line(answer, Stage::Over),
     }
 }

@@ -1,12 +1,11 @@
 -- The list that moves were handed out to.
---   length_handed    it is as long as it was
 --   handed_moves     where the numbers begin with the moves, they are its first records, and the records behind them stay
 -- Assumes nothing.
 use mathlib.Core.List.{List, [], ◌∷◌, ◌++◌}
 use mathlib.Core.Path.{◌≡◌, refl, sym, ap, ap₂, ◌∙◌}
 use Prim.Native.Nat.{ℕ, zero, suc, ◌+◌, ◌*◌, ◌≤◌, ◌<◌}
 use native.Mathlib.Omega.{arith}
-use lib.ListN.{length, get_or, set, take, drop, length-set}
+use lib.ListN.{length, get_or, set, take, drop}
 use lib.Seq.{set_at, get_or-take, take-suc, take-length, drop-cons, length-take-le, append_snoc}
 use Rattle.rule.specs.declared.Move.{Move}
 use Rattle.rule.specs.Calls.{move}
@@ -14,12 +13,6 @@ use Rattle.write.specs.Tables.{flat_moves}
 use Rattle.records.specs.Outcome.{recorded}
 use Rattle.records.specs.Record.{move_at}
 use Rattle.station.specs.Handed.{handed}
-
-pub length_handed : (list : List Move) (numbers : List ℕ) (n : ℕ) → length (handed list numbers n) ≡ length list
-unfolding handed
-length_handed list numbers zero = refl
-length_handed list numbers (suc n) =
-    length-set (handed list numbers n) n (move_at numbers n) ∙ length_handed list numbers n
 
 -- ---- move i of the moves' numbers is their move i
 

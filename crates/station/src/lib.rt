@@ -18,14 +18,14 @@ pub fn count_into(t: &mut rule::Tally, c: rule::Call, r: rule::Reply)
 }
 
 // The first moves of the numbers become the first records of the list, and the records behind them stay.
+// A count beside the list, since `hand_out(&mut list[..count], numbers)` is no plainer: it needs a law on the records behind.
+#[tactic(auto, unfolding(crate::specs::Handed::handed))]
 fn hand_out(list: &mut [rule::Move], numbers: &[u32; tables::MOVE_NUMBERS], count: usize)
     requires { (count ≤ length list.old) × (3 * count ≤ 3 * most_tablets) }
     ensures { list.new ≡ handed list.old numbers.now count }
 {
-    let mut i = 0;
-    while i < count {
+    for i in 0..count {
         list[i] = records::move_at(numbers, i);
-        i += 1;
     }
 }
 

@@ -1,13 +1,13 @@
 -- Laws of a survey, a tablet at a time.
 --   seat_below, seat_takes, seat_relay, seat_right   the slot that the row leads to from a tablet's home
---   surveyed_none, surveyed_more, surveyed_end       no tablet is placed; one more is; all are
+--   surveyed_none, surveyed_more                     no tablet is placed; one more is
 -- Assumes nothing.
 use mathlib.Core.Bool.{Bool, ◌&&◌}
 use mathlib.Core.List.{List}
-use mathlib.Core.Path.{◌≡◌, refl, sym, ap, ◌∙◌, subst}
+use mathlib.Core.Path.{◌≡◌, refl, sym, ap, ◌∙◌}
 use Prim.Native.Nat.{ℕ, ◌+◌, ◌%◌, ◌^◌, ◌≤◌, ◌<◌}
 use native.Mathlib.Decide.{dec_lt}
-use native.Mathlib.Nat.{le_antisymm, not-suc-le-zero}
+use native.Mathlib.Nat.{not-suc-le-zero}
 use native.Mathlib.Numerals.{add-one}
 use native.Mathlib.Omega.{arith}
 use borrow.Author.Tests.{lt-ltb, le-ltb}
@@ -30,12 +30,14 @@ use Rattle.row.proofs.Led.{led, led_none}
 
 -- ---- no tablet yet
 
-pub surveyed_none : {p : Positions} {rs ts : List ℕ} {n : ℕ} {right : Bool} {position keys room next home slot : List ℕ}
+pub surveyed_none : {p : Positions} {rs ts : List ℕ} {n : ℕ} {position keys room next home slot : List ℕ}
     → position ≡ relay_positions p rs n → Ordered position n keys
     → room ≡ relay_limits rs n → Row keys room n 0 next → length home ≡ most_tablets → length slot ≡ most_tablets
-    → Surveyed p rs ts n 0 (record { right = right; keys = keys; room = room; next = next; last = replicate most_relays 0; home = home; slot = slot })
+    → Surveyed p rs ts n 0 (record { n = n; m = 0; keys = keys; room = room; next = next; last = replicate most_relays 0; home = home; slot = slot })
 unfolding room_after last_after
 surveyed_none e o left row lh ls = record {
+  relays = refl;
+  tablets = refl;
   ordered = rw (← e) o;
   left = left;
   row = row;
@@ -48,12 +50,6 @@ surveyed_none e o left row lh ls = record {
     relay = λ t l. absurd (not-suc-le-zero l);
   };
 }
-
--- ---- all tablets
-
-pub surveyed_end : {p : Positions} {rs ts : List ℕ} {n j m : ℕ} {v : Survey} → j ≤ m → m ≤ j → Surveyed p rs ts n j v
-    → Surveyed p rs ts n m v
-surveyed_end {p} {rs} {ts} {n} {v = v} a b s = subst (λ (m : ℕ). Surveyed p rs ts n m v) (le_antisymm a b) s
 
 -- ---- the seat of tablet j
 
@@ -119,11 +115,12 @@ module _ {p : Positions} {rs ts : List ℕ} {n j : ℕ} {v : Survey} {h k i : �
           rw (le-ltb 0 (get_or v.room i 0) (omega arith))
           (sym (placed_none p rs ts n j _ (seat_none (omega arith)) (omega (arith, s.few))))
 
-  pub surveyed_more : {right : Bool} {room' next' : List ℕ} → 0 < get_or v.room i 0 → j < most_tablets
+  pub surveyed_more : {room' next' : List ℕ} → 0 < get_or v.room i 0 → j < most_tablets
       → room' ≡ room_less v.room (slot_relay v.keys k) → Row v.keys room' n 0 next'
       → Surveyed p rs ts n (j + 1)
       (record {
-        right = right;
+        n = n;
+        m = j + 1;
         keys = v.keys;
         room = room';
         next = next';
@@ -133,6 +130,8 @@ module _ {p : Positions} {rs ts : List ℕ} {n j : ℕ} {v : Survey} {h k i : �
       })
   unfolding last_after
   surveyed_more w l less row = record {
+    relays = refl;
+    tablets = refl;
     ordered = s.survey.ordered;
     left = less ∙ room_more p rs ts n j s.survey.left (sym s.relay ∙ seat_relay w);
     row = row;

@@ -29,8 +29,10 @@ pub record Seats (p : Positions) (rs ts : List ℕ) (n j : ℕ) (keys home slot 
   pub inside : (t : ℕ) → t < j → get_or slot t 0 < n
   pub relay : (t : ℕ) → t < j → slot_relay keys (get_or slot t 0) ≡ relay_for p rs ts n t
 
--- the first m tablets are placed by the rule
+-- the first m tablets are placed by the rule among n relays
 pub record Surveyed (p : Positions) (rs ts : List ℕ) (n m : ℕ) (v : Survey) : Type 0 where
+  pub relays : v.n ≡ n
+  pub tablets : v.m ≡ m
   pub ordered : Ordered (relay_positions p rs n) n v.keys
   pub left : v.room ≡ room_after p rs ts n m
   pub row : Row v.keys v.room n 0 v.next

@@ -3,3 +3,4 @@ pub mod Shaped
 pub mod Nearest
 pub mod Room
 pub mod Placed
+pub mod Pairs

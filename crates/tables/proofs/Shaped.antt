@@ -3,7 +3,7 @@
 --   previous_more, entry_more, unused_more  one more place is tested
 --   shape_within, shape_entry, shape_rest   what a shape says of each place
 --   shape_used                              a table of that shape has as many places in use as entries
---   relays_in_lem, tablets_in_lem                   the entries of a table that is as it must be can be in use
+--   in_use                                  the entries of a table that is as it must be can be in use
 -- Assumes nothing.
 use mathlib.Core.Bool.{Bool, true, false, ◌&&◌, cond}
 use mathlib.Core.List.{List}
@@ -13,11 +13,9 @@ use native.Mathlib.Numerals.{add-one}
 use native.Mathlib.Omega.{arith}
 use borrow.Author.Tests.{ltb-true, leb-true, eqb-true, lt-ltb}
 use lib.Dec.{eqb, ltb, leb}
-use Rattle.ring.specs.Most.{most_relays, most_tablets}
 use Rattle.ring.proofs.Tests.{and_left, and_right}
-use Rattle.tables.specs.Table.{relay_places, relay_number, relay_whole, RelaysIn, tablet_places, tablet_number, tablet_whole, TabletsIn}
-use Rattle.tables.specs.Shape.{all, used, previous, entry_right, unused, entry_at, unused_at, shape, relays_used}
-use Rattle.tables.specs.Shape.{tablets_used, relay_fits, tablet_fits, relay_shape, tablet_shape}
+use Rattle.tables.specs.Table.{places_of, number_in, is_whole, InUse}
+use Rattle.tables.specs.Shape.{all, used, previous, entry_right, unused, entry_at, unused_at, shape, used_in, fits_in, table_shape}
 use Rattle.tables.proofs.Loops.{all_step, all_at}
 
 module _ (number : ℕ → ℕ) where
@@ -115,22 +113,11 @@ module _ (top : ℕ) (number beside : ℕ → ℕ) (n places : ℕ) where
           (omega (arith, behind d (λ i h l. f i h (omega arith))))
 
 -- the entries of a table that is as it must be can be in use
-pub relays_in_lem : {rs : List ℕ} {n : ℕ} → n ≡ relays_used rs → relay_shape rs n ≡ true → RelaysIn rs n
-unfolding relays_used relay_shape relay_fits
-relays_in_lem {rs} {n} u e =
-    let few = leb-true (relay_places rs) most_relays (and_right (relay_whole rs) _ (and_left _ _ e)) in
+pub in_use : {most : ℕ} (top : ℕ) {t : List ℕ} {n : ℕ} → n ≡ used_in t → table_shape most top t n ≡ true → InUse most t n
+unfolding used_in table_shape fits_in
+in_use {most} top {t} {n} u e =
+    let few = leb-true (places_of t) most (and_right (is_whole t) _ (and_left _ _ e)) in
     record {
-      few = omega (arith, used_most (relay_number rs) (relay_places rs));
-      there = omega
-          (arith, used_most (relay_number rs) (relay_places rs));
-    }
-
-pub tablets_in_lem : {ts : List ℕ} {m : ℕ} → m ≡ tablets_used ts → tablet_shape ts m ≡ true → TabletsIn ts m
-unfolding tablets_used tablet_shape tablet_fits
-tablets_in_lem {ts} {m} u e =
-    let few = leb-true (tablet_places ts) most_tablets (and_right (tablet_whole ts) _ (and_left _ _ e)) in
-    record {
-      few = omega (arith, used_most (tablet_number ts) (tablet_places ts));
-      there = omega
-          (arith, used_most (tablet_number ts) (tablet_places ts));
+      few = omega (arith, used_most (number_in t) (places_of t));
+      there = omega (arith, used_most (number_in t) (places_of t));
     }

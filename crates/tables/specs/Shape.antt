@@ -2,7 +2,7 @@
 -- (a relay's limit, a tablet's relay), and how many places there are. Assumes nothing.
 use Rattle.std.specs.Prelude.{Bool, true, ◌&&◌, cond, List, ℕ, zero, suc, ◌+◌, ◌-◌, eqb, ltb, leb}
 use Rattle.ring.specs.Most.{top_number, most_relays, most_tablets, most_limit}
-use Rattle.tables.specs.Table.{relay_places, relay_number, relay_limit, relay_whole, tablet_places, tablet_number, tablet_relay, tablet_whole}
+use Rattle.tables.specs.Table.{places_of, number_in, beside_in, is_whole}
 
 -- f is true of every number below n
 unfoldable pub all : (ℕ → Bool) → ℕ → Bool
@@ -40,25 +40,36 @@ unfoldable pub shape : ℕ → (ℕ → ℕ) → (ℕ → ℕ) → ℕ → ℕ �
 shape top number beside n places =
     leb n places && (all (entry_at top number beside) n && all (unused_at number beside n) (places - n))
 
--- ---- the two tables
+-- ---- either table
 
-unfoldable pub relays_used : List ℕ → ℕ
-relays_used rs = used (relay_number rs) (relay_places rs)
-
-unfoldable pub tablets_used : List ℕ → ℕ
-tablets_used ts = used (tablet_number ts) (tablet_places ts)
+unfoldable pub used_in : List ℕ → ℕ
+used_in t = used (number_in t) (places_of t)
 
 -- whole places, and not too many
-unfoldable pub relay_fits : List ℕ → Bool
-relay_fits rs = relay_whole rs && leb (relay_places rs) most_relays
-
-unfoldable pub tablet_fits : List ℕ → Bool
-tablet_fits ts = tablet_whole ts && leb (tablet_places ts) most_tablets
+unfoldable pub fits_in : ℕ → List ℕ → Bool
+fits_in most t = is_whole t && leb (places_of t) most
 
 -- the table is as it must be, with n entries
-unfoldable pub relay_shape : List ℕ → ℕ → Bool
-relay_shape rs n = relay_fits rs && shape most_limit (relay_number rs) (relay_limit rs) n (relay_places rs)
+unfoldable pub table_shape : ℕ → ℕ → List ℕ → ℕ → Bool
+table_shape most top t n = fits_in most t && shape top (number_in t) (beside_in t) n (places_of t)
+
+-- ---- the two tables
+
+abbrev pub relays_used : List ℕ → ℕ
+relays_used = used_in
+
+abbrev pub tablets_used : List ℕ → ℕ
+tablets_used = used_in
+
+abbrev pub relay_fits : List ℕ → Bool
+relay_fits = fits_in most_relays
+
+abbrev pub tablet_fits : List ℕ → Bool
+tablet_fits = fits_in most_tablets
+
+abbrev pub relay_shape : List ℕ → ℕ → Bool
+relay_shape = table_shape most_relays most_limit
 
 -- what stands beside a tablet may be any 32-bit number
-unfoldable pub tablet_shape : List ℕ → ℕ → Bool
-tablet_shape ts m = tablet_fits ts && shape top_number (tablet_number ts) (tablet_relay ts) m (tablet_places ts)
+abbrev pub tablet_shape : List ℕ → ℕ → Bool
+tablet_shape = table_shape most_tablets top_number

@@ -4,42 +4,51 @@
 use Rattle.std.specs.Prelude.{Bool, List, ℕ, ◌+◌, ◌*◌, ◌/◌, ◌%◌, ◌≤◌, eqb, length, get_or}
 use Rattle.ring.specs.Most.{most_relays, most_tablets}
 
--- ---- the relay table: number, limit
+-- ---- either table: a number, and what stands beside it
 
 -- how many whole places it has
-unfoldable pub relay_places : List ℕ → ℕ
-relay_places rs = length rs / 2
+unfoldable pub places_of : List ℕ → ℕ
+places_of t = length t / 2
 
-unfoldable pub relay_number : List ℕ → ℕ → ℕ
-relay_number rs i = get_or rs (2 * i) 0
+unfoldable pub number_in : List ℕ → ℕ → ℕ
+number_in t i = get_or t (2 * i) 0
 
-unfoldable pub relay_limit : List ℕ → ℕ → ℕ
-relay_limit rs i = get_or rs (2 * i + 1) 0
+unfoldable pub beside_in : List ℕ → ℕ → ℕ
+beside_in t i = get_or t (2 * i + 1) 0
 
 -- it has whole places alone
-unfoldable pub relay_whole : List ℕ → Bool
-relay_whole rs = eqb (length rs % 2) 0
+unfoldable pub is_whole : List ℕ → Bool
+is_whole t = eqb (length t % 2) 0
+
+-- so many of its places can be in use, where so many may be
+pub record InUse (most : ℕ) (t : List ℕ) (n : ℕ) : Type 0 where
+  pub few : n ≤ most
+  pub there : n ≤ places_of t
+
+-- ---- the relay table: number, limit
+
+abbrev pub relay_places : List ℕ → ℕ
+relay_places = places_of
+
+abbrev pub relay_number : List ℕ → ℕ → ℕ
+relay_number = number_in
+
+abbrev pub relay_limit : List ℕ → ℕ → ℕ
+relay_limit = beside_in
+
+abbrev pub RelaysIn : List ℕ → ℕ → Type 0
+RelaysIn = InUse most_relays
 
 -- ---- the tablet table: number, relay
 
-unfoldable pub tablet_places : List ℕ → ℕ
-tablet_places ts = length ts / 2
+abbrev pub tablet_places : List ℕ → ℕ
+tablet_places = places_of
 
-unfoldable pub tablet_number : List ℕ → ℕ → ℕ
-tablet_number ts j = get_or ts (2 * j) 0
+abbrev pub tablet_number : List ℕ → ℕ → ℕ
+tablet_number = number_in
 
-unfoldable pub tablet_relay : List ℕ → ℕ → ℕ
-tablet_relay ts j = get_or ts (2 * j + 1) 0
+abbrev pub tablet_relay : List ℕ → ℕ → ℕ
+tablet_relay = beside_in
 
-unfoldable pub tablet_whole : List ℕ → Bool
-tablet_whole ts = eqb (length ts % 2) 0
-
--- ---- so many of a table's places can be in use
-
-pub record RelaysIn (rs : List ℕ) (n : ℕ) : Type 0 where
-  pub few : n ≤ most_relays
-  pub there : n ≤ relay_places rs
-
-pub record TabletsIn (ts : List ℕ) (m : ℕ) : Type 0 where
-  pub few : m ≤ most_tablets
-  pub there : m ≤ tablet_places ts
+abbrev pub TabletsIn : List ℕ → ℕ → Type 0
+TabletsIn = InUse most_tablets

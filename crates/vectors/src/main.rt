@@ -1,57 +1,46 @@
-// The published vectors of 32-bit FNV-1a: a line for each, which the gate compares with `stdout`.
+// The published vectors of 32-bit FNV-1a: a line for each, which the gate compares with `stdout`. Where one cannot be written, the run goes on
+// without it.
 #![tactic(auto)]
 
-fn show(bytes: &[u8]) {
-    let shown = io::print_hex(1, ring::hash(bytes) as u64, 8);
-    if shown {
-        io::write_all(1, b"\n");
+fn main(rt: HostRuntime) {
+    let vectors: [&[u8]; 32] = [
+        // The letters of "foobar", one more at a time.
+        b"",
+        b"a",
+        b"b",
+        b"c",
+        b"d",
+        b"e",
+        b"f",
+        b"fo",
+        b"foo",
+        b"foob",
+        b"fooba",
+        b"foobar",
+        // Each with a zero byte behind it.
+        b"\0",
+        b"a\0",
+        b"b\0",
+        b"c\0",
+        b"d\0",
+        b"e\0",
+        b"f\0",
+        b"fo\0",
+        b"foo\0",
+        b"foob\0",
+        b"fooba\0",
+        b"foobar\0",
+        // Longer ones.
+        b"ch",
+        b"cho",
+        b"chon",
+        b"chong",
+        b"chongo",
+        b"chongo ",
+        b"chongo was here!\n",
+        b"\xff\x00\x00\x01",
+    ];
+    for bytes in vectors {
+        let _ = println!(rt; "{:08x}", ring::hash(bytes));
     }
-}
-
-// The letters of "foobar", one more at a time, each also with a zero byte behind it.
-fn foobar() {
-    show(b"");
-    show(b"a");
-    show(b"b");
-    show(b"c");
-    show(b"d");
-    show(b"e");
-    show(b"f");
-    show(b"fo");
-    show(b"foo");
-    show(b"foob");
-    show(b"fooba");
-    show(b"foobar");
-}
-
-fn foobar_zero() {
-    show(b"\0");
-    show(b"a\0");
-    show(b"b\0");
-    show(b"c\0");
-    show(b"d\0");
-    show(b"e\0");
-    show(b"f\0");
-    show(b"fo\0");
-    show(b"foo\0");
-    show(b"foob\0");
-    show(b"fooba\0");
-    show(b"foobar\0");
-}
-
-fn longer() {
-    show(b"ch");
-    show(b"cho");
-    show(b"chon");
-    show(b"chong");
-    show(b"chongo");
-    show(b"chongo ");
-    show(b"chongo was here!\n");
-    show(b"\xff\x00\x00\x01");
-}
-
-fn main() {
-    foobar();
-    foobar_zero();
-    longer();
 }

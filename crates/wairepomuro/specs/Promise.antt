@@ -1,6 +1,8 @@
 -- What the C interface promises: the promise of the call, with the reply as four numbers and the refusal's number as the answer (document 01,
 -- "Replies"). Assumes nothing.
-use Rattle.std.specs.Prelude.{List, ◌≡◌, ℕ}
+use Rattle.std.specs.Prelude.{List, ◌≡◌, ℕ, Result, Ok, Err}
+use Rattle.rule.specs.declared.Refusal.{Refusal}
+use Rattle.rule.specs.declared.Refusal.TheVariants.{Done}
 use Rattle.rule.specs.declared.Call.{Call}
 use Rattle.rule.specs.declared.Reply.{Reply}
 use Rattle.rule.specs.Refusals.{number_of}
@@ -10,7 +12,7 @@ use Rattle.reply.specs.Numbers.{reply_numbers}
 use Rattle.call_start.specs.Promise.{Lists}
 use Rattle.sheet.specs.Promise as Sheet
 use Rattle.stretch.specs.Promise.{stretch_of}
-use Rattle.roster.specs.declared.Reading.{Reading}
+use Rattle.roster.specs.Reading.{Reading}
 use Rattle.roster.specs.Reading as Roster
 use Rattle.calls.specs.Promise.{counted_after}
 
@@ -31,6 +33,11 @@ unfoldable pub served_reading : List ℕ → List ℕ → List ℕ → After ℕ
 served_reading b rs ts =
     let a : After Reading (List ℕ × List ℕ) = Roster.after b rs ts in
     record { reply = number_of a.reply.reply.refusal; lent = (a.lent, a.reply.scheme) }
+
+-- the refusal of what was made, or done
+abbrev pub refusal_of : Result ℕ Refusal → Refusal
+refusal_of (Ok made) = Done
+refusal_of (Err why) = why
 
 -- the number answered, and the limit
 pub record Shares (p q tablets relays answer out : ℕ) : Type 0 where

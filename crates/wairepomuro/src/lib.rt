@@ -8,15 +8,14 @@ ghost use Rattle.rule.specs.Refusals.{number_of};
 ghost use Rattle.promise.specs.Promise.{Answers};
 ghost use Rattle.meaning.specs.Meaning.{tables_refusal};
 ghost use Rattle.call_start.specs.Promise.{lists};
-ghost use Rattle.wairepomuro.specs.Promise.{served_call, served_sheet, served_reading, Shares, Spans};
+ghost use Rattle.wairepomuro.specs.Promise.{served_call, served_sheet, served_reading, Shares, Spans, refusal_of};
 
 // Are these right tables? Answers with the number of the refusal that every call would give for them: 0, 1 or 2.
 #[unsafe(no_mangle)]
 pub extern "C" fn wairepomuro_check(scheme: u32, relays: &[u32], tablets: &[u32]) -> u32
     ensures { result ≡ number_of (tables_refusal scheme relays.now tablets.now) }
 {
-    let refusal = call_start::check(scheme, relays, tablets);
-    rule::number(refusal)
+    u32::from(call_start::check(scheme, relays, tablets))
 }
 
 #[unsafe(no_mangle)]
@@ -135,6 +134,13 @@ pub extern "C" fn wairepomuro_find(
     reply::hand_out(reply, made)
 }
 
+// The number that answers what was made: the refusal's, or that of done.
+fn answer(made: Result<u32, rule::Refusal>) -> u32
+    ensures { result ≡ number_of (refusal_of made) }
+{
+    u32::from(made.err().unwrap_or(rule::Refusal::Done))
+}
+
 // Every relay's limit with balance p/q.
 #[unsafe(no_mangle)]
 pub extern "C" fn wairepomuro_balance(
@@ -146,11 +152,9 @@ pub extern "C" fn wairepomuro_balance(
 ) -> u32
     ensures { Shares p q tablets relays result limit.new }
 {
-    let b = balance::balance(p, q, tablets, relays);
-    *limit = b.limit;
-    let reply = b.reply;
-    let refusal = reply.refusal;
-    rule::number(refusal)
+    let made = balance::balance(p, q, tablets, relays);
+    *limit = made.unwrap_or(0);
+    answer(made)
 }
 
 // The sheet of these tables.
@@ -165,8 +169,7 @@ pub extern "C" fn wairepomuro_sheet(
         sheet.new }
 {
     let made = sheet::sheet(scheme, relays, tablets, sheet);
-    let refusal = made.refusal;
-    rule::number(refusal)
+    u32::from(made.refusal)
 }
 
 // Where one relay's stretch of the sheet starts, and how long it is.
@@ -200,8 +203,6 @@ pub extern "C" fn wairepomuro_read(
         result ((relays.new, tablets.new), scheme.new) }
 {
     let made = roster::read(bytes, relays, tablets);
-    *scheme = made.scheme;
-    let reply = made.reply;
-    let refusal = reply.refusal;
-    rule::number(refusal)
+    *scheme = made.unwrap_or(0);
+    answer(made)
 }

@@ -2,13 +2,15 @@
 // docs/DECISIONS.md, reading 9). What a byte of the input does is `input`'s. Here bytes are read, and answers written.
 #![tactic(auto)]
 
-ghost use Rattle.std.specs.Prelude.{[], ◌∷◌, ◌≡◌, ◌≤◌, ◌<◌, min, length, take};
+ghost use Rattle.std.specs.Prelude.{[], ◌∷◌, ◌≡◌, ◌≤◌, ◌<◌, min, IfOk, length, take};
 ghost use Rattle.std.proofs.lemmas.List.Edits.{sets};
-ghost use Rattle.watch.specs.Chunks.{Brings};
+ghost use Rattle.watch.specs.Chunks.{bytes_of, Brings};
 
-use std::io::{Read, Stdin};
+use std::io;
+use std::io::Read;
 
-const STDOUT: i32 = 1;
+// As many bytes are read at once.
+const CHUNK: usize = 4096;
 
 // A line is answered as its first 24 bytes are, so no more are kept (`answered_first` in `input`).
 const KEPT: usize = 24;
@@ -16,11 +18,13 @@ const KEPT: usize = 24;
 // The longest answer: 44 bytes, and 35 for each of 4,096 moves (`takes_whole` in `input`).
 const ANSWER: usize = 44 + 35 * ring::MOST_TABLETS;
 
-// What a read brought: how many bytes are to be taken, and whether no more will come.
+// ---- reading
+
+// What a read brought: so many bytes of the chunk, and more may come, or the last ones.
 #[derive(Drop)]
-struct Brought {
-    count: usize,
-    ended: bool,
+enum Brought {
+    More(usize),
+    Last(usize),
 }
 
 // A last line without a newline is a line: where bytes of it are kept, a newline is still to be taken.
@@ -36,121 +40,86 @@ fn last_newline(chunk: &mut [u8], kept: usize) -> usize
 }
 
 // What a read brought that answered `got`. Where it failed, the line that it cut off is not made.
-fn after_read(chunk: &mut [u8], kept: usize, got: isize) -> Brought
-    requires { 0 < length chunk.old }
-    ensures { Brings got kept chunk.old result.count result.ended chunk.new }
+fn after_read(chunk: &mut [u8], kept: usize, got: io::Result<usize>) -> Brought
+    requires { (0 < length chunk.old) × IfOk got (λ count. count ≤ length chunk.old) }
+    ensures brings { Brings got kept chunk.old result chunk.new }
+    ensures within { bytes_of result ≤ length chunk.new }
 {
-    let n = io::count(got, chunk);
-    if got > 0 {
-        return Brought {
-            count: n,
-            ended: false,
-        };
-    }
-    if got < 0 {
-        return Brought {
-            count: 0,
-            ended: true,
-        };
-    }
-    let last = last_newline(chunk, kept);
-    Brought {
-        count: last,
-        ended: true,
+    match got {
+        Ok(0) => Brought::Last(last_newline(chunk, kept)),
+        Ok(count) => Brought::More(count),
+        Err(_) => Brought::Last(0),
     }
 }
 
-// Reads once: how many bytes came, 0 at the end of the input, and a number below 0 where it failed.
-fn read_once(input: Stdin, chunk: &mut [u8]) -> isize
-    ensures { length chunk.new ≡ length chunk.old }
-{
-    let mut reader = input;
-    match reader.read(chunk) {
-        Ok(n) => n as isize,
-        Err(_) => -1,
+// ---- a run
+
+// What is lent to each byte that is taken, and where the run stands.
+#[derive(Drop)]
+struct Run {
+    relays: [u32; tables::RELAY_NUMBERS],
+    tablets: [u32; tables::TABLET_NUMBERS],
+    moves: [u32; tables::MOVE_NUMBERS],
+    answer: [u8; ANSWER],
+    line: [u8; KEPT],
+    at: stage::Standing,
+}
+
+impl Run {
+    // Takes a byte, and sends the answer that is due. Where that fails nobody reads on, and the run is over.
+    fn take(&mut self, rt: &impl Print, byte: u8) {
+        self.at = input::take_byte(
+            &mut self.relays,
+            &mut self.tablets,
+            &mut self.moves,
+            &mut self.answer,
+            &mut self.line,
+            self.at,
+            byte,
+        );
+        if rt.write_all(&self.answer[..self.at.due]).is_err() {
+            self.at = stage::Standing {
+                stage: stage::Stage::Over,
+                kept: 0,
+                due: 0,
+            };
+        }
+    }
+
+    fn take_all(&mut self, rt: &impl Print, bytes: &[u8]) {
+        for byte in bytes {
+            self.take(rt, *byte);
+        }
     }
 }
 
-// Reads once, and says what the read brought.
-fn bring(input: Stdin, chunk: &mut [u8], kept: usize) -> Brought
-    requires { 0 < length chunk.old }
-    ensures { result.count ≤ length chunk.new }
-{
-    let got = read_once(input, chunk);
-    after_read(chunk, kept, got)
-}
-
-// Writes the answer that is due. Where that fails nobody reads on, and the run is over.
-fn send(answer: &[u8], at: stage::Standing) -> stage::Standing
-    requires { at.due ≤ length answer.now }
-{
-    let due = at.due;
-    let sent = io::write_all(STDOUT, &answer[0..due]);
-    if sent {
-        at
-    } else {
-        stage::Standing {
-            stage: stage::Stage::Over,
+// A proved loop has to end, and nothing says that the input does. So the turns are counted.
+fn main(rt: HostRuntime) {
+    let mut input = rt.stdin();
+    let mut chunk = [0u8; CHUNK];
+    let mut run = Run {
+        relays: [0; tables::RELAY_NUMBERS],
+        tablets: [0; tables::TABLET_NUMBERS],
+        moves: [0; tables::MOVE_NUMBERS],
+        answer: [0; ANSWER],
+        line: [0; KEPT],
+        at: stage::Standing {
+            stage: stage::Stage::First,
             kept: 0,
             due: 0,
-        }
-    }
-}
-
-// Takes the bytes of a chunk, and sends each answer as soon as its line has ended.
-fn take_chunk(
-    relays: &mut [u32],
-    tablets: &mut [u32],
-    moves: &mut [u32],
-    answer: &mut [u8],
-    line: &mut [u8],
-    start: stage::Standing,
-    chunk: &[u8],
-) -> stage::Standing {
-    let mut at = start;
-    let mut i = 0;
-    while i < chunk.len() {
-        let next = input::take_byte(relays, tablets, moves, answer, line, at, chunk[i]);
-        at = send(answer, next);
-        i += 1;
-    }
-    at
-}
-
-// A proved loop has to end, and nothing says that the input does. So the turns are counted down.
-fn main(rt: HostRuntime) {
-    let input = rt.stdin();
-    let mut relays = [0u32; tables::RELAY_NUMBERS];
-    let mut tablets = [0u32; tables::TABLET_NUMBERS];
-    let mut moves = [0u32; tables::MOVE_NUMBERS];
-    let mut answer = [0u8; ANSWER];
-    let mut line = [0u8; KEPT];
-    let mut chunk = io::buffer();
-    let mut at = stage::Standing {
-        stage: stage::Stage::First,
-        kept: 0,
-        due: 0,
+        },
     };
-    let mut turns = u64::MAX;
-    while turns > 0 {
-        let kept = at.kept;
-        let brought = bring(input, &mut chunk, kept);
-        let count = brought.count;
-        at = take_chunk(
-            &mut relays,
-            &mut tablets,
-            &mut moves,
-            &mut answer,
-            &mut line,
-            at,
-            &chunk[0..count],
-        );
-        if brought.ended {
+    for _ in 0..u64::MAX {
+        let got = input.read(&mut chunk);
+        match after_read(&mut chunk, run.at.kept, got) {
+            Brought::More(count) => run.take_all(&rt, &chunk[..count]),
+            Brought::Last(count) => {
+                run.take_all(&rt, &chunk[..count]);
+                return;
+            }
+        }
+        if stage::over(run.at) {
             return;
         }
-        if stage::over(at) {
-            return;
-        }
-        turns -= 1;
     }
 }

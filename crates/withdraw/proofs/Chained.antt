@@ -79,12 +79,12 @@ delete_parts {f} b {n} a at h =
 
 -- ---- who moves
 
-module _ {s : ℕ} {rs ts : List ℕ} {n m : ℕ} {v : Survey} (b : Start s rs ts n m v) where
+module _ {s : ℕ} {rs ts : List ℕ} {v : Survey} (b : Start s rs ts v.n v.m v) where
   abbrev behind : ℕ → ℕ → List Entry
   behind j left = from (tablet_number ts) (tablet_relay ts) j left
 
   -- the tablet at place i leaves its relay
-  movers_holes : (left i j : ℕ) → i < m → j + left ≤ m
+  movers_holes : (left i j : ℕ) → i < v.m → j + left ≤ v.m
       → moves_of ts (tablet_relay ts i) (movers v.home v.slot i j left) ≡ holes (positions s) (tablet_relay ts i)
       (from (tablet_number ts) (tablet_relay ts) j left)
   unfolding from moves_of
@@ -101,21 +101,21 @@ module _ {s : ℕ} {rs ts : List ℕ} {n m : ℕ} {v : Survey} (b : Start s rs t
       ∙ sym (holes_pass (positions s) (tablet_relay ts i) (entry (tablet_number ts j) (tablet_relay ts j))
       (behind (suc j) left) (sym (passed_at_lem b i j h (omega arith)) ∙ p)))
 
-  module _ (at : ℕ) (h : at < m) where
+  module _ (at : ℕ) (h : at < v.m) where
     abbrev g : Ring
-    g = record { relays = relays_in rs n; tablets = tablets_in ts m }
+    g = record { relays = relays_in rs v.n; tablets = tablets_in ts v.m }
 
     abbrev x : ℕ
     x = tablet_number ts at
 
-    parts : delete (tablet_number ts at) (tablets_in ts m) ≡ tablets_in ts at ++ from (tablet_number ts) (tablet_relay ts)
-        (suc at) (m - suc at)
+    parts : delete (tablet_number ts at) (tablets_in ts v.m) ≡ tablets_in ts at ++ from (tablet_number ts) (tablet_relay ts)
+        (suc at) (v.m - suc at)
     parts = delete_parts (tablet_relay ts) (start_rises b).tablets at h
 
-    there : has (tablets_in ts m) (tablet_number ts at) ≡ true
-    there = has_place (tablet_number ts) (tablet_relay ts) m (tablet_number ts at) at h refl
+    there : has (tablets_in ts v.m) (tablet_number ts at) ≡ true
+    there = has_place (tablet_number ts) (tablet_relay ts) v.m (tablet_number ts at) at h refl
 
-    beside : beside_of (tablets_in ts m) (tablet_number ts at) ≡ tablet_relay ts at
+    beside : beside_of (tablets_in ts v.m) (tablet_number ts at) ≡ tablet_relay ts at
     beside = beside_places (tablet_relay ts) (start_rises b).tablets at h
 
     -- nobody before the tablet had passed its relay
@@ -124,15 +124,15 @@ module _ {s : ℕ} {rs ts : List ℕ} {n m : ℕ} {v : Survey} (b : Start s rs t
         ap (λ (q : ℕ). had_passed (positions s) q e) (sym beside)
         ∙ lower_passed (positions s) g (right b) x there e
         (subst (λ (l : List Entry). Among e l) (sym parts)
-        (among_left (tablets_in ts at) (behind (suc at) (m - suc at)) e i))
+        (among_left (tablets_in ts at) (behind (suc at) (v.m - suc at)) e i))
         (let l : e.number < tablet_number ts at = before_lower (tablet_relay ts) (start_rises b).tablets at h e i in
         omega arith)
 
-    pub chain_moves : moves_of ts (tablet_relay ts at) (movers v.home v.slot at (suc at) (m - suc at))
-        ≡ holes (positions s) (beside_of (tablets_in ts m) (tablet_number ts at))
-        (delete (tablet_number ts at) (tablets_in ts m))
+    pub chain_moves : moves_of ts (tablet_relay ts at) (movers v.home v.slot at (suc at) (v.m - suc at))
+        ≡ holes (positions s) (beside_of (tablets_in ts v.m) (tablet_number ts at))
+        (delete (tablet_number ts at) (tablets_in ts v.m))
     chain_moves =
-        movers_holes (m - suc at) at (suc at) h (omega arith)
-        ∙ sym (holes_skip (positions s) (tablet_relay ts at) (tablets_in ts at) (behind (suc at) (m - suc at)) before)
+        movers_holes (v.m - suc at) at (suc at) h (omega arith)
+        ∙ sym (holes_skip (positions s) (tablet_relay ts at) (tablets_in ts at) (behind (suc at) (v.m - suc at)) before)
         ∙ ap (holes (positions s) (tablet_relay ts at)) (sym parts)
-        ∙ ap (λ (q : ℕ). holes (positions s) q (delete (tablet_number ts at) (tablets_in ts m))) (sym beside)
+        ∙ ap (λ (q : ℕ). holes (positions s) q (delete (tablet_number ts at) (tablets_in ts v.m))) (sym beside)

@@ -64,51 +64,51 @@ module _ (p : Positions) (g : Ring) (r : Right p g) where
 
 -- ---- by slot and place
 
-module _ {s : ℕ} {rs ts : List ℕ} {n m : ℕ} {v : Survey} (b : Start s rs ts n m v) where
-  rises : Rises (positions s) rs ts n m
+module _ {s : ℕ} {rs ts : List ℕ} {v : Survey} (b : Start s rs ts v.n v.m v) where
+  rises : Rises (positions s) rs ts v.n v.m
   rises = start_rises b
 
   abbrev g : Ring
-  g = record { relays = relays_in rs n; tablets = tablets_in ts m }
+  g = record { relays = relays_in rs v.n; tablets = tablets_in ts v.m }
 
-  pub right : Right (positions s) (record { relays = relays_in rs n; tablets = tablets_in ts m })
+  pub right : Right (positions s) (record { relays = relays_in rs v.n; tablets = tablets_in ts v.m })
   right = subst (λ (x : Ring). Right (positions s) x) (start_ring b) rises.ring
 
   abbrev at : ℕ → Entry
   at j = entry (tablet_number ts j) (tablet_relay ts j)
 
-  there : (j : ℕ) → j < m → Among (entry (tablet_number ts j) (tablet_relay ts j)) (tablets_in ts m)
+  there : (j : ℕ) → j < v.m → Among (entry (tablet_number ts j) (tablet_relay ts j)) (tablets_in ts v.m)
   there j h =
-      sits_among (tablets_in ts m) (tablet_number ts j) (tablet_relay ts j)
-      (places_sits (tablet_number ts) (tablet_relay ts) m j h)
+      sits_among (tablets_in ts v.m) (tablet_number ts j) (tablet_relay ts j)
+      (places_sits (tablet_number ts) (tablet_relay ts) v.m j h)
 
-  inside : (i : ℕ) → i < m → slot_relay v.keys (get_or v.slot i 0) < n
+  inside : (i : ℕ) → i < v.m → slot_relay v.keys (get_or v.slot i 0) < v.n
   inside i h = b.surveyed.ordered.holds.relay (get_or v.slot i 0) (slot_within b i h)
 
   -- the tablet at place j had passed the relay of the tablet at place i
-  pub passed_at_lem : (i j : ℕ) → i < m → j < m → passed_at v.home v.slot i j ≡ had_passed (positions s)
+  pub passed_at_lem : (i j : ℕ) → i < v.m → j < v.m → passed_at v.home v.slot i j ≡ had_passed (positions s)
       (tablet_relay ts i) (entry (tablet_number ts j) (tablet_relay ts j))
   unfolding passed_at
   passed_at_lem i j h l =
-      around_steps n (get_or v.home j 0) (get_or v.slot i 0) (get_or v.slot j 0) rises.relays_fit.few
+      around_steps v.n (get_or v.home j 0) (get_or v.slot i 0) (get_or v.slot j 0) rises.relays_fit.few
       (home_within b j l) (home_byte b j l) (slot_within b i h) (slot_within b j l)
       ∙ sym (passed_steps b j l (get_or v.slot i 0) (slot_within b i h))
       ∙ ap (λ (q : ℕ). had_passed (positions s) q (at j)) (slot_relay_lem b i h)
 
-  has_room_lem : (i : ℕ) → i < m → 0 < slot_room v.keys v.room (get_or v.slot i 0)
-      → load (tablets_in ts m) (tablet_relay ts i) < held (relays_in rs n) (tablet_relay ts i)
+  has_room_lem : (i : ℕ) → i < v.m → 0 < slot_room v.keys v.room (get_or v.slot i 0)
+      → load (tablets_in ts v.m) (tablet_relay ts i) < held (relays_in rs v.n) (tablet_relay ts i)
   unfolding slot_room
   has_room_lem i h o =
       let k : ℕ = slot_relay v.keys (get_or v.slot i 0) in
-      let e : get_or v.room k 0 ≡ relay_limit rs k - load (tablets_in ts m) (relay_number rs k) =
-      ap (λ (l : List ℕ). get_or l k 0) b.surveyed.left ∙ right_room rises m (omega arith) k (inside i h) in
-      subst (λ (q : ℕ). load (tablets_in ts m) q < held (relays_in rs n) q) (slot_relay_lem b i h)
+      let e : get_or v.room k 0 ≡ relay_limit rs k - load (tablets_in ts v.m) (relay_number rs k) =
+      ap (λ (l : List ℕ). get_or l k 0) b.surveyed.left ∙ right_room rises v.m (omega arith) k (inside i h) in
+      subst (λ (q : ℕ). load (tablets_in ts v.m) q < held (relays_in rs v.n) q) (slot_relay_lem b i h)
       (omega (arith, held_places (relay_limit rs) rises.relays k (inside i h)))
 
-  small : (i : ℕ) → i < m → tablet_relay ts i < 2 ^ 32
+  small : (i : ℕ) → i < v.m → tablet_relay ts i < 2 ^ 32
   small i h = tablet_relay_word b.tablet_words i
 
-  pub start_sweeps : Sweeps v.keys v.room v.home v.slot m
+  pub start_sweeps : Sweeps v
   start_sweeps =
       record {
         few = rises.tablets_fit.few;
@@ -121,14 +121,14 @@ module _ {s : ℕ} {rs ts : List ℕ} {n m : ℕ} {v : Survey} (b : Start s rs t
             (tablet_number ts l) (sits i l h c e) (rising j l a c);
       }
     where
-      sits : (i l : ℕ) → i < m → l < m → get_or v.slot l 0 ≡ get_or v.slot i 0
-          → Sits (tablets_in ts m) (tablet_number ts l) (tablet_relay ts i)
+      sits : (i l : ℕ) → i < v.m → l < v.m → get_or v.slot l 0 ≡ get_or v.slot i 0
+          → Sits (tablets_in ts v.m) (tablet_number ts l) (tablet_relay ts i)
       sits i l h c e =
-          subst (λ (x : ℕ). Sits (tablets_in ts m) (tablet_number ts l) x)
+          subst (λ (x : ℕ). Sits (tablets_in ts v.m) (tablet_number ts l) x)
           (sym (slot_relay_lem b l c) ∙ ap (λ (x : ℕ). relay_number rs (slot_relay v.keys x)) e ∙ slot_relay_lem b i h)
-          (places_sits (tablet_number ts) (tablet_relay ts) m l c)
+          (places_sits (tablet_number ts) (tablet_relay ts) v.m l c)
 
-      rising : (j l : ℕ) → j ≤ l → l < m → tablet_number ts j ≤ tablet_number ts l
+      rising : (j l : ℕ) → j ≤ l → l < v.m → tablet_number ts j ≤ tablet_number ts l
       rising j l a c =
           split (ltb j l)
           (λ s. omega (arith, rises.tablets.up j l (ltb-true j l s) c))

@@ -3,19 +3,17 @@
 --   withdraw_fillers   it is not, and they can sit down
 --   withdraw_done      they have, and the tablet is taken out
 -- Assumes nothing.
-use mathlib.Core.Bool.{Bool, true, false, not}
+use mathlib.Core.Bool.{true, false}
 use mathlib.Core.Path.{◌≡◌, refl, sym, ap, ◌∙◌}
 use mathlib.Core.List.{List}
 use Prim.Native.Nat.{ℕ, ◌/◌, ◌≤◌, ◌<◌}
 use native.Mathlib.Omega.{arith}
 use lib.ListN.{length, take}
 use lib.Seq.{length-take-le}
-use borrow.Author.Tests.{not-false}
 use Rattle.ring.specs.Scheme.{positions}
 use Rattle.ring.specs.declared.TabletNumber.{TabletNumber}
 use Rattle.rule.specs.declared.Move.{Move}
 use Rattle.rule.specs.declared.Refusal.TheVariants.{Done, MoveListTooShort}
-use Rattle.rule.specs.declared.Reply.{Reply}
 use Rattle.rule.specs.declared.Call.TheVariants.{Withdraw}
 use Rattle.rule.specs.Entry.{Entry, has, beside_of, delete, total}
 use Rattle.rule.specs.Rule.{Ring}
@@ -31,14 +29,14 @@ use Rattle.survey.specs.declared.Survey.{Survey}
 use Rattle.meaning.specs.Meaning.{relays_in, tablets_in, ring_of, lent_of}
 use Rattle.meaning.proofs.Places.{has_place}
 use Rattle.write.specs.Tables.{flat, filled, tablet_table, listed}
-use Rattle.write.proofs.Filled.{tablets_taken}
+use Rattle.write.proofs.Filled.{table_taken}
 use Rattle.promise.specs.Promise.{Answers}
 use Rattle.call_start.specs.Promise.{lists, after}
 use Rattle.call_start.specs.Start.{Start}
 use Rattle.call_start.proofs.Refusals.{start_rises, start_ring, list_refused, all_passed, refused_answers, accepted_answers}
 use Rattle.call_start.proofs.Stays.{tablets_whole, tablets_zeros, relays_stay}
 use Rattle.seat.specs.declared.Seat.{Seat}
-use Rattle.seat.specs.Seat.{Found, SeatOf}
+use Rattle.seat.specs.Seat.{Found, seat_refusal}
 use Rattle.seat.proofs.Replies.{missing_withdraw, found_relay, found_passed}
 use Rattle.holes.specs.declared.Movers.{Movers}
 use Rattle.holes.specs.Holes.{MoversAre}
@@ -47,27 +45,21 @@ use Rattle.holes.proofs.Seated.{length_moves}
 use Rattle.withdraw.proofs.Known.{right}
 use Rattle.withdraw.proofs.Chained.{chain_moves}
 
-module _ {s : ℕ} {rs ts : List ℕ} {n m : ℕ} {v : Survey} (b : Start s rs ts n m v) (t : TabletNumber) {seat : Seat}
-    (f : SeatOf ts n m v.home v.slot t.0 seat) {done : Bool} (ed : done ≡ is_done seat.refusal)
-    (h : not done ≡ false) where
-  fine : is_done seat.refusal ≡ true
-  fine = sym ed ∙ not-false done h
-
-  pub stands : Found ts n m v.home v.slot t.0 seat
-  stands = f.found fine
-
+module _ {s : ℕ} {rs ts : List ℕ} {v : Survey} (b : Start s rs ts v.n v.m v) (t : TabletNumber) {seat : Seat}
+    (d : seat_refusal ts v t.0 ≡ Done) (stands : Found ts v t.0 seat) where
   abbrev ring : Ring
   ring = ring_of rs ts
 
   -- by how many relays and tablets were found
   abbrev g : Ring
-  g = record { relays = relays_in rs n; tablets = tablets_in ts m }
+  g = record { relays = relays_in rs v.n; tablets = tablets_in ts v.m }
 
-  there : has (tablets_in ts m) t.0 ≡ true
-  there = has_place (tablet_number ts) (tablet_relay ts) m t.0 seat.at stands.below stands.number
+  there : has (tablets_in ts v.m) t.0 ≡ true
+  there = has_place (tablet_number ts) (tablet_relay ts) v.m t.0 seat.at stands.below stands.number
 
   numbers_fine : (ms : List ℕ) → is_done (first_bar (wrong_numbers (lent_of s rs ts ms) (ring_of rs ts) (Withdraw t))) ≡ true
-  numbers_fine ms = ap is_done (missing_withdraw b t (lent_of s rs ts ms) ∙ sym f.refusal) ∙ fine
+  unfolding is_done
+  numbers_fine ms = ap is_done (missing_withdraw b t (lent_of s rs ts ms) ∙ d)
 
   -- one tablet less does not need more room
   enough : length (edited (ring_of rs ts) (Withdraw t)).tablets ≤ total (edited (ring_of rs ts) (Withdraw t)).relays
@@ -77,11 +69,11 @@ module _ {s : ℕ} {rs ts : List ℕ} {n m : ℕ} {v : Survey} (b : Start s rs t
       (omega (
         arith,
         (right b).enough,
-        length_delete t.0 (beside_of (tablets_in ts m) t.0) (tablets_in ts m) 0
-            (right b).tablets.up (has_sits (tablets_in ts m) 0 t.0 (right b).tablets.up there),
+        length_delete t.0 (beside_of (tablets_in ts v.m) t.0) (tablets_in ts v.m) 0
+            (right b).tablets.up (has_sits (tablets_in ts v.m) 0 t.0 (right b).tablets.up there),
       ))
 
-  module _ {chain : Movers} (c : MoversAre v.home v.slot m seat.at chain) (ms : List ℕ) where
+  module _ {chain : Movers} (c : MoversAre v seat.at chain) (ms : List ℕ) where
     abbrev moved_by_chain : List Move
     moved_by_chain = moves_of ts (tablet_relay ts seat.at) (take chain.count chain.places)
 
@@ -93,47 +85,47 @@ module _ {s : ℕ} {rs ts : List ℕ} {n m : ℕ} {v : Survey} (b : Start s rs t
         ∙ rw (← stands.number) (sym (chain_moves b seat.at stands.below))
         ∙ ap (moves_of ts (tablet_relay ts seat.at)) (sym c.are)
 
-    count_is : length (moves (positions s) (ring_of rs ts) (Withdraw t)) ≡ chain.count
-    count_is =
-        ap length moves_are ∙ length_moves ts (tablet_relay ts seat.at) (take chain.count chain.places)
-        ∙ length-take-le chain.count chain.places (omega (arith, c.few, c.size))
+    count_is : length (moves (positions s) (ring_of rs ts) (Withdraw t)) ≡ length (take chain.count chain.places)
+    count_is = ap length moves_are ∙ length_moves ts (tablet_relay ts seat.at) (take chain.count chain.places)
 
-    pub withdraw_short : length ms / 3 < chain.count → {reply : Reply} → reply ≡ bare_reply MoveListTooShort
-        → Answers (after s rs ts ms (Withdraw t)) reply (lists rs ts ms)
+    pub withdraw_short : length ms / 3 < length (take chain.count chain.places)
+        → Answers (after s rs ts ms (Withdraw t)) (bare_reply MoveListTooShort) (lists rs ts ms)
+        × (is_done MoveListTooShort ≡ false)
     unfolding is_done
-    withdraw_short l {reply} e =
-        refused_answers s rs ts ms (Withdraw t) MoveListTooShort
-        (list_refused s rs ts ms (Withdraw t) b (numbers_fine ms) enough (unfold lent_of in (rw count_is l))) refl reply
-        e
+    withdraw_short l = (
+      refused_answers s rs ts ms (Withdraw t) MoveListTooShort
+          (list_refused s rs ts ms (Withdraw t) b (numbers_fine ms) enough (unfold lent_of in (rw count_is l))) refl
+          (bare_reply MoveListTooShort) refl,
+      refl,
+    )
 
-    module _ (l : chain.count ≤ length ms / 3) where
-      pub withdraw_fillers : Fillers ts ms m chain.places chain.count
+    module _ (l : length (take chain.count chain.places) ≤ length ms / 3) where
+      pub withdraw_fillers : Fillers ts ms v.m (take chain.count chain.places)
       withdraw_fillers =
           record {
             there = (start_rises b).tablets_fit.there;
             numbers = (start_rises b).tablets;
-            size = c.size;
-            few = c.few;
+            few = omega (arith, c.few, length-take-le chain.count chain.places (omega (arith, c.few, c.size)));
             below = c.climbs.below;
             up = c.climbs.up;
             long = omega arith;
           }
 
-      module _ {ts' ms' : List ℕ} (k : Filled ts ts' m seat.at
+      module _ {ts' ms' : List ℕ} (k : Filled ts ts' v.m seat.at
           (moves_of ts (tablet_relay ts seat.at) (take chain.count chain.places))
           × (ms' ≡ listed (moves_of ts (tablet_relay ts seat.at) (take chain.count chain.places)) ms)) where
         tablets_after : (Calls.after (positions s) (ring_of rs ts) (Withdraw t)).tablets
-            ≡ seated moved_by_chain (delete (tablet_number ts seat.at) (tablets_in ts m))
+            ≡ seated moved_by_chain (delete (tablet_number ts seat.at) (tablets_in ts v.m))
         tablets_after =
             ap (λ (x : Ring). (Calls.after (positions s) x (Withdraw t)).tablets) (start_ring b)
             ∙ withdraw_after (positions s) g (right b) t there
             ∙ rw (← stands.number) (ap (λ (x : List Move). seated x
-            (delete (tablet_number ts seat.at) (tablets_in ts m))) (sym (chain_moves b seat.at stands.below)))
+            (delete (tablet_number ts seat.at) (tablets_in ts v.m))) (sym (chain_moves b seat.at stands.below)))
             ∙ ap (λ (x : List ℕ). seated (moves_of ts (tablet_relay ts seat.at) x)
-            (delete (tablet_number ts seat.at) (tablets_in ts m))) (sym c.are)
+            (delete (tablet_number ts seat.at) (tablets_in ts v.m))) (sym c.are)
 
         pub withdraw_done : Answers (after s rs ts ms (Withdraw t))
-            (replied Done seat.relay.0 seat.passed chain.count) (lists rs ts' ms')
+            (replied Done seat.relay.0 seat.passed (length (take chain.count chain.places))) (lists rs ts' ms')
         withdraw_done =
             accepted_answers s rs ts ms (Withdraw t)
             (all_passed s rs ts ms (Withdraw t) b (numbers_fine ms) enough (unfold lent_of in (rw count_is l)))
@@ -141,7 +133,7 @@ module _ {s : ℕ} {rs ts : List ℕ} {n m : ℕ} {v : Survey} (b : Start s rs t
             (unfold accepted relay_of passed in (rw (found_relay b t stands, found_passed b t stands, count_is)))
             (relays_stay b (Calls.after (positions s) ring (Withdraw t))
             (unfold Calls.after edited in (ap (λ (x : Ring). x.relays) (start_ring b))))
-            (unfold tablet_table in (tablets_taken k.0.took (tablets_whole b) (omega (arith, stands.below))
+            (unfold tablet_table in (table_taken k.0.took (tablets_whole b) (omega (arith, stands.below))
             (start_rises b).tablets_fit.there (tablets_zeros b)
             ∙ ap (λ (x : List Entry). filled (length ts) (flat x)) (sym tablets_after)))
             (k.1 ∙ ap (λ (x : List Move). listed x ms) (sym moves_are))

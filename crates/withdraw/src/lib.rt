@@ -3,7 +3,7 @@
 
 ghost use Rattle.rule.specs.declared.Call.TheVariants.{Withdraw};
 ghost use Rattle.promise.specs.Promise.{Answers};
-ghost use Rattle.call_start.specs.Promise.{lists, after};
+ghost use Rattle.call_start.specs.Promise.{lists, after, Ends};
 
 // The tablet is taken out, and those who fill the holes move. The reply has its relay and how many relays it had passed, both taken
 // before the call.
@@ -18,40 +18,35 @@ pub fn withdraw(
         (Withdraw t))
         result (lists relays.now tablets.new moves.new) }
 {
-    let l = call_start::look(scheme, relays, tablets);
-    let refusal = l.refusal;
-    let done = rule::done(refusal);
-    if !done {
-        return rule::bare_reply(refusal);
+    match withdrawn(scheme, relays, tablets, moves, t) {
+        Ok(reply) => reply,
+        Err(why) => rule::bare_reply(why),
     }
-    let n = l.n;
-    let m = l.m;
-    let seat = seat::seat_of(tablets, n, m, &l.survey.home, &l.survey.slot, t);
-    let wrong = seat.refusal;
-    let done = rule::done(wrong);
-    if !done {
-        return rule::bare_reply(wrong);
+}
+
+fn withdrawn(
+    scheme: u32,
+    relays: &[u32],
+    tablets: &mut [u32],
+    moves: &mut [u32],
+    t: ring::TabletNumber,
+) -> Result<rule::Reply, rule::Refusal>
+    ensures { Ends (after scheme relays.now tablets.old moves.old
+        (Withdraw t))
+        result (lists relays.now tablets.new moves.new) }
+{
+    let survey = call_start::look(scheme, relays, tablets)?;
+    let seat = seat::seat_of(tablets, &survey, t)?;
+    let chain = holes::holes(&survey, seat.at);
+    let movers = &chain.places[..chain.count];
+    if moves.len() / 3 < movers.len() {
+        return Err(rule::Refusal::MoveListTooShort);
     }
-    let at = seat.at;
-    let chain = holes::holes(
-        &l.survey.keys,
-        &l.survey.room,
-        &l.survey.home,
-        &l.survey.slot,
-        m,
-        at,
-    );
-    let count = chain.count;
-    if moves.len() / 3 < count {
-        return rule::bare_reply(rule::Refusal::MoveListTooShort);
-    }
-    holes::fill(tablets, moves, m, at, &chain.places, count);
-    let made = count as u32;
-    let relay = seat.relay;
-    rule::Reply {
+    holes::fill(tablets, moves, survey.m, seat.at, movers);
+    Ok(rule::Reply {
         refusal: rule::Refusal::Done,
-        relay: relay,
+        relay: seat.relay,
         passed: seat.passed,
-        moves: made,
-    }
+        moves: movers.len() as u32,
+    })
 }

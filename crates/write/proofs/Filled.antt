@@ -2,9 +2,9 @@
 --   rest_zeros                       the test that the rest is unused says so
 --   zeros_behind                     and so of fewer places
 --   flat_more, length_flat           one entry more; how many numbers they are
---   relays_filled, tablets_filled    a table as it stands
---   relays_table, tablets_table      one whose first places were written
---   relays_taken, tablets_taken      one that an entry was taken out of
+--   table_as_it_is                   a table as it stands
+--   table_wrote                      one whose first places were written
+--   table_taken                      one that an entry was taken out of
 -- Assumes nothing.
 use mathlib.Core.Bool.{true, ◌||◌}
 use mathlib.Core.List.{List, [], ◌∷◌, ◌++◌, append_assoc}
@@ -18,12 +18,12 @@ use lib.ListN.{length, get_or, take, drop, replicate, length-drop, length-replic
 use lib.Seq.{length-take-le, take-suc, get_or-drop, ext_get_or}
 use Rattle.ring.proofs.Tests.{and_left, and_right}
 use Rattle.rule.specs.Entry.{Entry, entry}
-use Rattle.tables.specs.Table.{relay_places, relay_number, relay_limit, relay_whole, tablet_places, tablet_number, tablet_relay, tablet_whole}
+use Rattle.tables.specs.Table.{is_whole, beside_in, number_in, places_of}
 use Rattle.tables.specs.Shape.{unused}
 use Rattle.tables.proofs.Loops.{eq_or_ne, all_at}
-use Rattle.meaning.specs.Meaning.{places, relays_in, tablets_in, rest_unused}
+use Rattle.meaning.specs.Meaning.{places, entries_in, rest_unused}
 use Rattle.write.specs.Tables.{flat, filled}
-use Rattle.write.specs.Wrote.{WroteRelays, WroteTablets}
+use Rattle.write.specs.Wrote.{WroteEntries}
 use Rattle.write.specs.Places.{TookOut, Zeros}
 use Rattle.place.proofs.Sets.{first_of, second_of}
 
@@ -125,56 +125,28 @@ taken_zeros {number_at = number_at} {beside_at = beside_at} {after = after} {m =
           (eq_or_ne i (m - 1));
     }
 
--- ---- the relay table
+-- ---- a lent table
 
-pub relays_filled : (rs : List ℕ) (n : ℕ) → relay_whole rs ≡ true → n ≤ relay_places rs
-    → Zeros (relay_number rs) (relay_limit rs) n (relay_places rs)
-    → rs ≡ filled (length rs) (flat (relays_in rs n))
-unfolding relay_places relay_number relay_limit relay_whole
-relays_filled rs n whole room zeros = table_filled rs n room whole zeros
+pub table_as_it_is : (t : List ℕ) (n : ℕ) → is_whole t ≡ true → n ≤ places_of t
+    → Zeros (number_in t) (beside_in t) n (places_of t)
+    → t ≡ filled (length t) (flat (entries_in t n))
+unfolding places_of number_in beside_in is_whole
+table_as_it_is t n whole room zeros = table_filled t n room whole zeros
 
 module _ {before after : List ℕ} {n : ℕ} {es : List Entry} where
-  pub relays_table : WroteRelays before after n es → relay_whole before ≡ true → n ≤ relay_places before
-      → Zeros (relay_number before) (relay_limit before) n (relay_places before) → after ≡ filled (length before) (flat es)
-  unfolding relay_places relay_number relay_limit relay_whole
-  relays_table w whole room z =
+  pub table_wrote : WroteEntries before after n es → is_whole before ≡ true → n ≤ places_of before
+      → Zeros (number_in before) (beside_in before) n (places_of before) → after ≡ filled (length before) (flat es)
+  unfolding places_of number_in beside_in is_whole
+  table_wrote w whole room z =
       table_written before w.size w.entries whole room
       (record {
         numbers = λ i l u. w.number i l ∙ z.numbers i l u;
-        besides = λ i l u. w.limit i l
+        besides = λ i l u. w.beside i l
             ∙ z.besides i l u;
       })
 
-  pub relays_taken : TookOut relay_number relay_limit before after (n - 1) es → relay_whole before ≡ true → 0 < n
-      → n ≤ relay_places before
-      → Zeros (relay_number before) (relay_limit before) n (relay_places before) → after ≡ filled (length before) (flat es)
-  unfolding relay_places relay_number relay_limit relay_whole
-  relays_taken t whole h room z = table_written before t.size t.entries whole (omega arith) (taken_zeros h z t)
-
--- ---- the tablet table
-
-pub tablets_filled : (ts : List ℕ) (m : ℕ) → tablet_whole ts ≡ true → m ≤ tablet_places ts
-    → Zeros (tablet_number ts) (tablet_relay ts) m (tablet_places ts)
-    → ts ≡ filled (length ts) (flat (tablets_in ts m))
-unfolding tablet_places tablet_number tablet_relay tablet_whole
-tablets_filled ts m whole room zeros = table_filled ts m room whole zeros
-
-module _ {before after : List ℕ} {m : ℕ} {es : List Entry} where
-  pub tablets_table : WroteTablets before after m es → tablet_whole before ≡ true → m ≤ tablet_places before
-      → Zeros (tablet_number before) (tablet_relay before) m (tablet_places before)
-      → after ≡ filled (length before) (flat es)
-  unfolding tablet_places tablet_number tablet_relay tablet_whole
-  tablets_table w whole room z =
-      table_written before w.size w.entries whole room
-      (record {
-        numbers = λ i l u. w.number i l ∙ z.numbers i l u;
-        besides = λ i l u. w.relay i l
-            ∙ z.besides i l u;
-      })
-
-  pub tablets_taken : TookOut tablet_number tablet_relay before after (m - 1) es → tablet_whole before ≡ true → 0 < m
-      → m ≤ tablet_places before
-      → Zeros (tablet_number before) (tablet_relay before) m (tablet_places before)
-      → after ≡ filled (length before) (flat es)
-  unfolding tablet_places tablet_number tablet_relay tablet_whole
-  tablets_taken t whole h room z = table_written before t.size t.entries whole (omega arith) (taken_zeros h z t)
+  pub table_taken : TookOut number_in beside_in before after (n - 1) es → is_whole before ≡ true → 0 < n
+      → n ≤ places_of before
+      → Zeros (number_in before) (beside_in before) n (places_of before) → after ≡ filled (length before) (flat es)
+  unfolding places_of number_in beside_in is_whole
+  table_taken t whole h room z = table_written before t.size t.entries whole (omega arith) (taken_zeros h z t)

@@ -1,19 +1,22 @@
--- Places that are moved one up or one down, one after another, and what the table is at the end. f is the table before, g the table now.
---   raised_start, raised_next, raised_end       places moved up, from the last down, and an entry put in
---   lowered_start, lowered_next, lowered_end    places moved down, from the first up, and zeros at the end
---   changed_put                                 what stands beside one number is changed
+-- Places that are moved one up or one down, and what the table is at the end. f is the table before, g the table now.
+--   moved_up, put_in          places moved up, and an entry put in
+--   moved_down, taken_out     places moved down, and zeros at the end
+--   changed_put               what stands beside one number is changed
 -- Assumes nothing.
 use mathlib.Core.List.{List}
-use mathlib.Core.Logic.{⊎_elim}
-use mathlib.Core.Path.{◌≡◌, refl, sym, ap, ◌∙◌, subst}
-use Prim.Native.Nat.{ℕ, suc, ◌+◌, ◌-◌, ◌≤◌, ◌<◌}
-use native.Mathlib.Nat.{le_antisymm}
+use mathlib.Core.Path.{◌≡◌, refl, sym, ap, ap₂, ◌∙◌, subst}
+use Prim.Native.Nat.{ℕ, suc, ◌+◌, ◌-◌, ◌*◌, ◌≤◌, ◌<◌}
 use native.Mathlib.Numerals.{add-one}
 use native.Mathlib.Omega.{arith}
+use lib.ListN.{get_or}
+use Rattle.std.specs.List.{CopiedTo, SameBelow, SameFrom}
 use Rattle.rule.specs.Entry.{Entry, entry, insert, delete, put}
-use Rattle.tables.proofs.Loops.{eq_or_ne}
+use Rattle.tables.specs.Table.{number_in, beside_in}
 use Rattle.write.specs.Wrote.{Place, Climbs}
 use Rattle.write.proofs.Spans.{firsts, firsts_insert, firsts_delete, firsts_put}
+
+abbrev pub place_at : List ℕ → ℕ → Entry
+place_at t i = entry (number_in t i) (beside_in t i)
 
 -- place k is e, and every other place is as it was
 pub record Changed (f g : ℕ → Entry) (k : ℕ) (e : Entry) : Type 0 where
@@ -45,74 +48,70 @@ pub record Lowered (f g : ℕ → Entry) (at j : ℕ) : Type 0 where
 
 -- ---- moved up
 
-module _ (f : ℕ → Entry) (m : ℕ) where
-  pub raised_start : Raised f f m m
-  raised_start = record { low = λ i l. refl; up = λ i l u. absurd (omega arith); high = λ i l. refl }
+-- the entry of place i, by the two numbers that it has
+at_place : (l r : List ℕ) (i j a b : ℕ) → a ≡ 2 * i → b ≡ 2 * i + 1 → get_or l a 0 ≡ get_or r (2 * j) 0
+    → get_or l b 0 ≡ get_or r (2 * j + 1) 0 → place_at l i ≡ place_at r j
+unfolding number_in beside_in
+at_place l r i j a b ea eb p q = ap₂ entry (ap (λ k. get_or l k 0) (sym ea) ∙ p) (ap (λ k. get_or l k 0) (sym eb) ∙ q)
 
-  pub raised_next : {g h : ℕ → Entry} (j : ℕ) {e : Entry} → Raised f g m j → 0 < j → j ≤ m → Changed g h j e
-      → e ≡ g (j - 1) → Raised f h m (j - 1)
-  raised_next {h = h} j r p q c e =
+module _ (t l : List ℕ) (n at : ℕ) where
+  pub moved_up : at ≤ n → CopiedTo t l (2 * at) (2 * at + 2) (2 * n - 2 * at) → SameBelow t l (2 * at + 2)
+      → SameFrom t l (2 * at + 2 + (2 * n - 2 * at)) → Raised (place_at t) (place_at l) n at
+  moved_up h copied below from =
       record {
-        low = λ i l. c.other i (λ (z : i ≡ j). omega arith) ∙ r.low i (omega arith);
-        up = λ i l u.
-            ⊎_elim (λ (z : i ≡ j - 1).
-            let y : suc i ≡ j = omega arith in
-            ap h y ∙ c.here ∙ e ∙ r.low (j - 1) (omega arith) ∙ ap f (sym z))
-            (λ (d : i ≡ j - 1 → ⊥). c.other (suc i) (λ (z : suc i ≡ j). d (omega arith)) ∙ r.up i (omega arith) u)
-            (eq_or_ne i (j - 1));
-        high = λ i l. c.other i (λ (z : i ≡ j). omega arith) ∙ r.high i l;
+        low = λ i k. at_place l t i i _ _ refl refl (below (2 * i) 0 (omega arith)) (below (2 * i + 1) 0 (omega arith));
+        up = λ i a b.
+            at_place l t (suc i) i (2 * i + 2) (2 * i + 3) (omega arith) (omega arith)
+            (copied (2 * i + 2) 0 (omega arith) (omega arith)
+            ∙ ap (λ k. get_or t k 0) (let e : 2 * at + (2 * i + 2 - (2 * at + 2)) ≡ 2 * i = omega arith in e))
+            (copied (2 * i + 3) 0 (omega arith) (omega arith)
+            ∙ ap (λ k. get_or t k 0) (let e : 2 * at + (2 * i + 3 - (2 * at + 2)) ≡ 2 * i + 1 = omega arith in e));
+        high = λ i k. at_place l t i i _ _ refl refl (from (2 * i) 0 (omega arith)) (from (2 * i + 1) 0 (omega arith));
       }
 
-  pub raised_end : {g h : ℕ → Entry} (at x v j : ℕ) → Raised f g m j → at ≤ j → j ≤ at → Place (λ i. (f i).number) m x at
-      → Changed g h at (entry x v)
-      → Wrote f h (m + 1) (insert x v (firsts f m))
-  raised_end {g = g} {h = h} at x v j r l u p c =
-      let s : Raised f g m at = subst (Raised f g m) (le_antisymm u l) r in
+  pub moved_down : at < n → CopiedTo t l (2 * at + 2) (2 * at) (2 * n - (2 * at + 2)) → SameBelow t l (2 * at)
+      → SameFrom t l (2 * at + (2 * n - (2 * at + 2))) → Lowered (place_at t) (place_at l) at (n - 1)
+  moved_down h copied below from =
+      record {
+        low = λ i k. at_place l t i i _ _ refl refl (below (2 * i) 0 (omega arith)) (below (2 * i + 1) 0 (omega arith));
+        down = λ i a b.
+            at_place l t i (suc i) _ _ refl refl
+            (copied (2 * i) 0 (omega arith) (omega arith)
+            ∙ ap (λ k. get_or t k 0) (let e : 2 * at + 2 + (2 * i - 2 * at) ≡ 2 * suc i = omega arith in e))
+            (copied (2 * i + 1) 0 (omega arith) (omega arith)
+            ∙ ap (λ k. get_or t k 0) (let e : 2 * at + 2 + (2 * i + 1 - 2 * at) ≡ 2 * suc i + 1 = omega arith in e));
+        high = λ i k. at_place l t i i _ _ refl refl (from (2 * i) 0 (omega arith)) (from (2 * i + 1) 0 (omega arith));
+      }
+
+module _ (f g : ℕ → Entry) (n at : ℕ) where
+  -- and an entry put in
+  pub put_in : {h : ℕ → Entry} (x v : ℕ) → Raised f g n at → Place (λ i. (f i).number) n x at → Changed g h at (entry x v)
+      → Wrote f h (n + 1) (insert x v (firsts f n))
+  put_in {h = h} x v s p c =
       record {
         entries =
-            ap (firsts h) (add-one m)
-            ∙ firsts_insert f h at (λ i b. c.other i (λ (z : i ≡ at). omega arith) ∙ s.low i b) m x v p c.here
+            ap (firsts h) (add-one n)
+            ∙ firsts_insert f h at (λ i b. c.other i (λ (z : i ≡ at). omega arith) ∙ s.low i b) n x v p c.here
             (λ i a b. c.other (suc i) (λ (z : suc i ≡ at). omega arith) ∙ s.up i a b);
         later = λ i b. c.other i (λ (z : i ≡ at). omega (arith, p.within)) ∙ s.high i (omega arith);
       }
 
--- ---- moved down
-
-module _ (f : ℕ → Entry) (at : ℕ) where
-  pub lowered_start : Lowered f f at at
-  lowered_start = record { low = λ i l. refl; down = λ i l u. absurd (omega arith); high = λ i l. refl }
-
-  pub lowered_next : {g h : ℕ → Entry} (j : ℕ) {e : Entry} → Lowered f g at j → at ≤ j → Changed g h j e → e ≡ g (j + 1)
-      → Lowered f h at (j + 1)
-  lowered_next {h = h} j r p c e =
-      record {
-        low = λ i l. c.other i (λ (z : i ≡ j). omega arith) ∙ r.low i l;
-        down = λ i l u.
-            ⊎_elim (λ (z : i ≡ j).
-            let y : j + 1 ≡ suc i = omega arith in
-            ap h z ∙ c.here ∙ e ∙ r.high (j + 1) (omega arith) ∙ ap f y)
-            (λ (d : i ≡ j → ⊥). c.other i d ∙ r.down i l (omega arith))
-            (eq_or_ne i j);
-        high = λ i l. c.other i (λ (z : i ≡ j). omega arith) ∙ r.high i (omega arith);
-      }
-
-  pub lowered_end : {g h : ℕ → Entry} (m j : ℕ) → Lowered f g at j → at < m → j ≤ m - 1 → m - 1 ≤ j
-      → Climbs (λ i. (f i).number) m → Changed g h (m - 1) (entry 0 0)
-      → Took f h (m - 1) (delete (f at).number (firsts f m))
-  lowered_end {g = g} {h = h} m j r p l u climb c =
-      let s : Lowered f g at (m - 1) = subst (Lowered f g at) (le_antisymm l u) r in
-      let n : ℕ = m - 1 - at in
-      let a : at + n ≡ m - 1 = omega arith in
-      let b : suc (at + n) ≡ m = omega arith in
+  -- and zeros at the end
+  pub taken_out : {h : ℕ → Entry} → Lowered f g at (n - 1) → at < n → Climbs (λ i. (f i).number) n
+      → Changed g h (n - 1) (entry 0 0) → Took f h (n - 1) (delete (f at).number (firsts f n))
+  taken_out {h = h} s p climb c =
+      let k : ℕ = n - 1 - at in
+      let a : at + k ≡ n - 1 = omega arith in
+      let b : suc (at + k) ≡ n = omega arith in
       record {
         entries =
             ap (firsts h) (sym a)
-            ∙ firsts_delete f h at (λ i l. c.other i (λ (z : i ≡ m - 1). omega arith) ∙ s.low i l) n
+            ∙ firsts_delete f h at (λ i l. c.other i (λ (z : i ≡ n - 1). omega arith) ∙ s.low i l) k
             (subst (Climbs (λ i. (f i).number)) (sym b) climb)
-            (λ i l u. c.other i (λ (z : i ≡ m - 1). omega arith) ∙ s.down i l (omega arith))
+            (λ i l u. c.other i (λ (z : i ≡ n - 1). omega arith) ∙ s.down i l (omega arith))
             ∙ ap (λ (k : ℕ). delete (f at).number (firsts f k)) b;
         zeros = c.here;
-        later = λ i l. c.other i (λ (z : i ≡ m - 1). omega arith) ∙ s.high i (omega arith);
+        later = λ i l. c.other i (λ (z : i ≡ n - 1). omega arith) ∙ s.high i (omega arith);
       }
 
 -- ---- changed

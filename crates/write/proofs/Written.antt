@@ -1,27 +1,20 @@
--- The two tables as places: what the writing functions say, over what each place gives.
+-- A table as places: what the writing functions say, over what each place gives.
 --   set_changed, beside_changed      one place is changed
---   wrote_relays, wrote_tablets, took_out    what the functions say, of what every place gives
+--   wrote_entries, took_out          what the functions say, of what every place gives
 -- Assumes nothing.
 use mathlib.Core.List.{List}
 use mathlib.Core.Path.{◌≡◌, ap, ap₂}
 use Prim.Native.Nat.{ℕ}
 use lib.ListN.{length}
 use Rattle.rule.specs.Entry.{Entry, entry}
-use Rattle.tables.specs.Table.{relay_number, relay_limit, tablet_number, tablet_relay}
-use Rattle.write.specs.Wrote.{WroteRelays, WroteTablets}
+use Rattle.write.specs.Wrote.{WroteEntries}
 use Rattle.place.specs.Places.{SetPlace, SetBeside}
 use Rattle.write.specs.Places.{TookOut}
-use Rattle.write.proofs.Shifts.{Changed, Wrote, Took}
+use Rattle.write.proofs.Shifts.{place_at, Changed, Wrote, Took}
 
 -- the entry at a place
 abbrev pub entry_at : (List ℕ → ℕ → ℕ) → (List ℕ → ℕ → ℕ) → List ℕ → ℕ → Entry
 entry_at number_at beside_at l i = entry (number_at l i) (beside_at l i)
-
-abbrev pub relay_at : List ℕ → ℕ → Entry
-relay_at = entry_at relay_number relay_limit
-
-abbrev pub tablet_at : List ℕ → ℕ → Entry
-tablet_at = entry_at tablet_number tablet_relay
 
 same_number : {e e' : Entry} → e ≡ e' → e.number ≡ e'.number
 same_number p = ap (λ (e : Entry). e.number) p
@@ -54,23 +47,12 @@ took_out e w =
       besides = λ i l. same_beside (w.later i l);
     }
 
-module _ {before after : List ℕ} {m : ℕ} {es : List Entry} (e : length after ≡ length before) where
-  pub wrote_relays : Wrote (relay_at before) (relay_at after) m es → WroteRelays before after m es
-  wrote_relays w =
-      record {
-        size = e;
-        entries = w.entries;
-        number = λ i l. same_number (w.later i l);
-        limit = λ i l. same_beside
-            (w.later i l);
-      }
-
-  pub wrote_tablets : Wrote (tablet_at before) (tablet_at after) m es → WroteTablets before after m es
-  wrote_tablets w =
-      record {
-        size = e;
-        entries = w.entries;
-        number = λ i l. same_number (w.later i l);
-        relay = λ i l. same_beside
-            (w.later i l);
-      }
+pub wrote_entries : {before after : List ℕ} {n : ℕ} {es : List Entry} → length after ≡ length before
+    → Wrote (place_at before) (place_at after) n es → WroteEntries before after n es
+wrote_entries e w =
+    record {
+      size = e;
+      entries = w.entries;
+      number = λ i l. same_number (w.later i l);
+      beside = λ i l. same_beside (w.later i l);
+    }

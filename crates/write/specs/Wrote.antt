@@ -2,21 +2,15 @@
 -- stay. Assumes nothing.
 use Rattle.std.specs.Prelude.{List, ◌≡◌, ℕ, ◌≤◌, ◌<◌, length}
 use Rattle.rule.specs.Entry.{Entry}
-use Rattle.tables.specs.Table.{relay_number, relay_limit, tablet_number, tablet_relay}
-use Rattle.meaning.specs.Meaning.{relays_in, tablets_in}
+use Rattle.tables.specs.Table.{number_in, beside_in}
+use Rattle.meaning.specs.Meaning.{entries_in}
 
--- the first m places of the tablet table are these entries, and every later place is as it was
-pub record WroteTablets (before after : List ℕ) (m : ℕ) (es : List Entry) : Type 0 where
+-- the first n places of a table are these entries, and every later place is as it was
+pub record WroteEntries (before after : List ℕ) (n : ℕ) (es : List Entry) : Type 0 where
   pub size : length after ≡ length before
-  pub entries : tablets_in after m ≡ es
-  pub number : (i : ℕ) → m ≤ i → tablet_number after i ≡ tablet_number before i
-  pub relay : (i : ℕ) → m ≤ i → tablet_relay after i ≡ tablet_relay before i
-
-pub record WroteRelays (before after : List ℕ) (n : ℕ) (es : List Entry) : Type 0 where
-  pub size : length after ≡ length before
-  pub entries : relays_in after n ≡ es
-  pub number : (i : ℕ) → n ≤ i → relay_number after i ≡ relay_number before i
-  pub limit : (i : ℕ) → n ≤ i → relay_limit after i ≡ relay_limit before i
+  pub entries : entries_in after n ≡ es
+  pub number : (i : ℕ) → n ≤ i → number_in after i ≡ number_in before i
+  pub beside : (i : ℕ) → n ≤ i → beside_in after i ≡ beside_in before i
 
 -- x is not among the first m numbers, and `at` is its place: those before it are lower, the others greater
 pub record Place (number : ℕ → ℕ) (m x at : ℕ) : Type 0 where

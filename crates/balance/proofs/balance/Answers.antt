@@ -1,20 +1,19 @@
 -- `balance::balance` meets its contract: refused, or with the limit of numbers that are within range. Assumes nothing.
-use mathlib.Core.Path.{ap}
-use mathlib.Core.Bool.{not}
-use Rattle.balance.proofs.Ranges.{fine, in_range, balances_refused, balances_done}
+use Rattle.std.proofs.lemmas.Result.{err_from_is_err_and}
+use Rattle.rule.specs.Refusals.{is_done}
+use Rattle.rule.specs.Balance.{balance}
+use Rattle.balance.proofs.Ranges.{in_range, balances_refused}
 use Rattle.balance.proofs.balance.Goals as goal
 
-pub returns-then-not-done : goal.returns-then-not-done
-returns-then-not-done c =
-    balances_refused _ _ _ _ c.why_not-refusal.ensures c.done-done.ensures
-    (ap not c.if-not-done.true) c.bare_reply.ensures
+pub limit_for-requires : goal.limit_for-requires
+unfolding is_done
+limit_for-requires c = in_range _ _ _ _ (rw c.in_ok-check.ensures)
 
-pub limit_for-limit-requires : goal.limit_for-limit-requires
-limit_for-limit-requires c =
-    in_range _ _ _ _ (fine _ _ _ _ c.why_not-refusal.ensures c.done-done.ensures (ap not c.if-not-done.false))
+pub returns-in_err-check-clause-limit : goal.returns-in_err-check-clause-limit
+returns-in_err-check-clause-limit c =
+    let p = err_from_is_err_and c.from_residual.result c.from_residual.ensures.1 in
+    rw (p.1, p.2) (balances_refused _ _ _ _ c.in_err-check.ensures)
 
-pub returns : goal.returns
-returns c =
-    balances_done _ _ _ _ c.why_not-refusal.ensures
-    c.done-done.ensures (ap not c.if-not-done.false) c.limit_for-limit.ensures
-    c.bare_reply-2.ensures
+pub returns-clause-limit : goal.returns-clause-limit
+unfolding balance is_done
+returns-clause-limit c = record { reply = rw c.in_ok-check.ensures; limit = rw (c.in_ok-check.ensures) c.limit_for.ensures }

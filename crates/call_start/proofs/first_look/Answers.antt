@@ -1,29 +1,12 @@
--- `call_start::first_look` meets its contract: each way out names the first refusal that applies, or that none does. Assumes nothing.
-use mathlib.Core.Path.{ap}
-use mathlib.Core.Bool.{not}
-use mathlib.Core.Path.{refl}
-use borrow.Author.Tests.{not-true}
-use Rattle.rule.specs.declared.Refusal.TheVariants.{SchemeUnknown, TablesNotRight}
-use Rattle.rule.specs.Refusals.{is_done}
-use Rattle.call_start.proofs.Checked.{words_of, unknown_refused, wrong_refused, barred_first, passed_first}
+-- `call_start::first_look` meets its contract: each refusal is the first that applies. Assumes nothing.
+use Rattle.call_start.proofs.Checked.{words_of, unknown_barred, shaped}
 use Rattle.call_start.proofs.first_look.Goals as goal
 
-pub returns-then-not-known : goal.returns-then-not-known
-unfolding is_done
-returns-then-not-known c =
-    barred_first _ _ _ _ SchemeUnknown refl c.barred.ensures
-    (unknown_refused _ _ _ c.scheme_known-known.ensures (ap not c.if-not-known.true))
-
-pub returns-then-not-s : goal.returns-then-not-s
-unfolding is_done
-returns-then-not-s c =
-    let wrong = c.shapes-s.ensures.wrong (not-true _ c.if-not-s.true) _ in
-    barred_first _ _ _ _ TablesNotRight refl c.barred-then-not-s.ensures
-    (wrong_refused _ _ _ (words_of _ c.type_inv.relays)
-    (words_of _ c.type_inv.tablets)
-    c.scheme_known-known.ensures (ap not c.if-not-known.false) wrong)
+pub returns-then-not-scheme_known : goal.returns-then-not-scheme_known
+returns-then-not-scheme_known c = unknown_barred _ _ _ c.scheme_known.ensures c.if-not-scheme_known.true
 
 pub returns : goal.returns
 returns c =
-    passed_first _ _ _ c.scheme_known-known.ensures (ap not c.if-not-known.false)
-    c.shapes-s.ensures c.if-not-s.false
+    rw c.ok_or.ensures.value
+    (shaped _ _ _ (words_of _ c.type_inv.relays) (words_of _ c.type_inv.tablets) c.scheme_known.ensures
+    c.if-not-scheme_known.false _ c.shapes.ensures)

@@ -4,14 +4,14 @@ use Rattle.dialogue.specs.Lines.{under}
 use Rattle.dialogue.proofs.Answers.{shows_said, shows_call}
 use Rattle.dialogue.proofs.next_line.Goals as goal
 
-pub returns-in-Call : goal.returns-in-Call
+pub returns-in-Some : goal.returns-in-Some
 unfolding under
-returns-in-Call c =
-    rw (sym c.in-Call.ensures)
+returns-in-Some c =
+    rw (sym c.in-Some.ensures)
     (shows_call _ _ _ _ _ _ c.call-reply.ensures c.answer-due.ensures)
 
-pub returns-in-Other : goal.returns-in-Other
+pub returns-in-None : goal.returns-in-None
 unfolding under
-returns-in-Other c =
-    rw (sym c.in-Other.ensures)
+returns-in-None c =
+    rw (sym c.in-None.ensures)
     (shows_said c.other_line.ensures)

@@ -3,8 +3,8 @@
 use Rattle.holes.proofs.Seated.{filled_climbs, filled_there, filled_from}
 use Rattle.holes.proofs.fill.Goals as goal
 
-pub delete_tablet-requires : goal.delete_tablet-requires
-delete_tablet-requires c = (
+pub delete-requires : goal.delete-requires
+delete-requires c = (
   c.requires.1,
   filled_there c.requires.0 c.requires.1 c.requires.2 _
       c.sit_down.ensures.0,
@@ -15,5 +15,5 @@ delete_tablet-requires c = (
 pub returns : goal.returns
 returns c =
     filled_from c.requires.0 c.requires.1 c.requires.2 _ c.sit_down.ensures.0
-    c.delete_tablet.ensures c.sit_down.ensures.1
+    c.delete.ensures c.sit_down.ensures.1
     c.tablet_relay-r.ensures

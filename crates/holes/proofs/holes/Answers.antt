@@ -5,36 +5,23 @@ use Rattle.std.proofs.Common.{refl, arith}
 use Rattle.holes.proofs.Sweeps.{swept_few, sweep_start, sweep_on, sweep_end}
 use Rattle.holes.proofs.holes.Goals as goal
 
-pub next_mover-j-requires : goal.next_mover-j-requires
-next_mover-j-requires c = (c.requires.0, c.requires.1)
-
 pub loop-j-init : goal.loop-j-init
-loop-j-init c = sweep_start _ _ _ _ c.requires.0 c.requires.1 refl c.next_mover-j.ensures
-
-pub overflow_cast-places : goal.overflow_cast-places
-overflow_cast-places c = omega (arith, c.loop-j-test.true, c.requires.0.few)
+loop-j-init c = sweep_start _ _ c.requires.0 c.requires.1 refl c.next_mover-j.ensures
 
 pub offset_bounds-places-count : goal.offset_bounds-places-count
-offset_bounds-places-count c = omega (arith, swept_few _ _ _ _ c.loop-j.invariant)
+offset_bounds-places-count c = omega (arith, swept_few _ _ c.loop-j.invariant)
 
 pub bounds-places-count : goal.bounds-places-count
-bounds-places-count c = omega (arith, swept_few _ _ _ _ c.loop-j.invariant)
+bounds-places-count c = omega (arith, swept_few _ _ c.loop-j.invariant)
 
 pub overflow_add-count : goal.overflow_add-count
-overflow_add-count c = omega (arith, swept_few _ _ _ _ c.loop-j.invariant)
-
-pub next_mover-j-requires-in-loop-j : goal.next_mover-j-requires-in-loop-j
-next_mover-j-requires-in-loop-j c =
-    (c.requires.0, omega (arith, c.loop-j-test.true, c.requires.1))
-
-pub loop-j-smaller : goal.loop-j-smaller
-loop-j-smaller c = omega (arith, c.loop-j-test.true, c.next_mover-j-in-loop-j.ensures.low)
+overflow_add-count c = omega (arith, swept_few _ _ c.loop-j.invariant)
 
 pub loop-j-preserved : goal.loop-j-preserved
 loop-j-preserved c =
-    sweep_on _ _ _ _ c.requires.0 c.loop-j.invariant
+    sweep_on _ _ c.requires.0 c.loop-j.invariant
     c.loop-j-test.true c.next_mover-j-in-loop-j.ensures
 
 pub returns : goal.returns
 returns c =
-    sweep_end _ _ _ _ c.requires.0 c.loop-j.invariant (omega (arith, c.loop-j-test.false))
+    sweep_end _ _ c.requires.0 c.loop-j.invariant (omega (arith, c.loop-j-test.false))

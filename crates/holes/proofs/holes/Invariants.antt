@@ -6,7 +6,7 @@ use Rattle.holes.proofs.Sweeps.{Swept}
 use Rattle.holes.proofs.holes.Given as goal
 
 abbrev pub invariant-loop-j : goal.invariant-loop-j
-invariant-loop-j l = Swept l.home l.slot l.m l.at l.places l.count l.j
+invariant-loop-j l = Swept l.survey l.at l.places l.count l.j
 
 abbrev pub decreases-loop-j : goal.decreases-loop-j
-decreases-loop-j l = l.m - l.j
+decreases-loop-j l = l.survey.m - l.j

@@ -5,25 +5,13 @@ use Rattle.row.specs.Row.{slot_room}
 use Rattle.holes.proofs.Sweeps.{next_at_once}
 use Rattle.holes.proofs.next_mover.Goals as goal
 
-pub bounds-slot-i : goal.bounds-slot-i
-bounds-slot-i c = omega (arith, c.requires.1, c.requires.0.few)
-
-pub slot_relay-relay-requires : goal.slot_relay-relay-requires
-slot_relay-relay-requires c =
-    omega (arith, c.from_u8.ensures.0, c.requires.0.slots _ c.requires.1)
-
-pub next_passed-requires : goal.next_passed-requires
-next_passed-requires c =
-    (c.requires.0.few, c.requires.1)
-
-pub returns-then-roomy : goal.returns-then-roomy
+pub returns-then-survey-relay-gt0 : goal.returns-then-survey-relay-gt0
 unfolding slot_room
-returns-then-roomy c =
+returns-then-survey-relay-gt0 c =
     next_at_once c.requires.0 _ c.requires.1
     (omega (
       arith,
-      c.if-roomy.true,
-      ap (λ (i : ℕ). get_or c.args.room.now i 0)
-          (c.slot_relay-relay.ensures.0 ∙ ap (slot_relay c.args.keys.now)
-          c.from_u8.ensures.0),
+      c.if-survey-relay-gt0.true,
+      ap (λ (i : ℕ). get_or c.args.survey.now.room i 0)
+          (c.slot_relay-relay.ensures.0 ∙ ap (slot_relay c.args.survey.now.keys) c.from.ensures),
     ))

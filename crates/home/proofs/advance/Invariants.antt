@@ -1,10 +1,6 @@
 -- `home::advance` meets its contract. The invariant: a walk to x may begin at k. Assumes nothing.
-use Prim.Native.Nat.{◌-◌}
 use Rattle.home.specs.Home.{Begins}
 use Rattle.home.proofs.advance.Given as goal
 
 abbrev pub invariant-loop-k : goal.invariant-loop-k
 invariant-loop-k l = Begins l.keys l.n l.x l.k
-
-abbrev pub decreases-loop-k : goal.decreases-loop-k
-decreases-loop-k l = l.n - l.k

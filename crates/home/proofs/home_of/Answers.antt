@@ -3,25 +3,23 @@
 use mathlib.Core.Path.{sym, ◌∙◌}
 use native.Mathlib.Omega.{arith}
 use borrow.Author.Tests.{leb-true}
-use lib.Dec.{leb}
 use Rattle.ring.proofs.Tests.{and_right}
 use Rattle.home.proofs.Walk.{begins_later, starts_at}
 use borrow.Author.Rules.{rules}
 use Rattle.home.proofs.home_of.Goals as goal
+use Rattle.home.proofs.home_of.Goals.{then-goes_on, else-goes_on}
 
 pub advance-requires : goal.advance-requires
 advance-requires c =
     let p = c.requires in
     let a = c.args in
-    let on = leb-true a.last.0 a.p.0
-    (and_right a.in_turn (leb a.last.0 a.p.0) (sym c.goes_on-on.ensures ∙ c.if-on.true)) in
-    (p.0, p.1, begins_later p.3 (omega (arith, on)))
-
-pub advance-requires-2 : goal.advance-requires-2
-advance-requires-2 c =
-    let p = c.requires in (
+    let at = c.from-at.ensures in (
       p.0,
       p.1,
-      starts_at p.2 (search rules)
-          c.from_u16.ensures.0,
+      elim c.if-goes_on.branch [
+        | then-goes_on w ↦
+            let on = leb-true a.last.0 a.p.0 (and_right a.in_turn _ (sym c.goes_on.ensures ∙ w.if-goes_on.true)) in
+            rw w.from-is (begins_later p.3 (omega (arith, on, at)))
+        | else-goes_on w ↦ rw at (starts_at p.2 (search rules) (w.from-is ∙ rw at at w.from-from.ensures))
+      ],
     )

@@ -5,7 +5,7 @@ use Rattle.input.proofs.take_byte.Goals as goal
 pub returns-then-ends : goal.returns-then-ends
 returns-then-ends c =
     takes_end c.if-ends.true
-    c.kept_part.ensures c.answer_line.ensures
+    c.kept_part-whole.ensures c.answer_line.ensures
 
 pub returns : goal.returns
-returns c = takes_kept c.if-ends.false c.put_byte-more.ensures
+returns c = takes_kept c.if-ends.false c.put_byte-kept.ensures

@@ -1,20 +1,29 @@
 -- `line::scheme_of` meets its contract: a first line begins with `scheme` and a space. Assumes nothing.
-use mathlib.Core.Path.{sym, ap, ◌∙◌}
-use Rattle.ring.proofs.Tests.{true_false}
+use mathlib.Core.Path.{sym, ◌∙◌}
 use Rattle.line.specs.Line.{scheme_word, known_or}
-use Rattle.line.proofs.Firsts.{scheme_short, scheme_other, scheme_named}
+use Rattle.line.proofs.Firsts.{scheme_other, scheme_named}
 use Rattle.line.proofs.scheme_of.Goals as goal
 
-pub returns-then-line-lt7 : goal.returns-then-line-lt7
-returns-then-line-lt7 c = sym (scheme_short _ c.if-line-lt7.true)
-
-pub returns-then-not-same : goal.returns-then-not-same
+pub returns-in_err-strip_prefix : goal.returns-in_err-strip_prefix
 unfolding scheme_word
-returns-then-not-same c = sym (scheme_other _ (λ e. true_false (sym (c.same.ensures.1 e) ∙ c.if-not-same.true)))
+returns-in_err-strip_prefix c = c.from_residual.ensures ∙ sym (scheme_other _ c.in_err-strip_prefix.ensures.cases)
 
-pub returns : goal.returns
-unfolding scheme_word
-returns c =
-    let l = c.args.line.now in
-    c.known_or_other.ensures ∙ ap known_or c.decimal.ensures
-    ∙ sym (scheme_named l (c.same.ensures.0 (c.if-not-same.false)))
+pub returns-in_err-scheme : goal.returns-in_err-scheme
+unfolding scheme_word known_or
+returns-in_err-scheme c =
+    let a = c.in_ok-strip_prefix.ensures.cases in
+    c.from_residual-in_err-scheme.ensures ∙ scheme_named _ _ a.0 a.1 c.in_err-scheme.ensures
+
+pub returns-then-scheme_known : goal.returns-then-scheme_known
+unfolding scheme_word known_or
+returns-then-scheme_known c =
+    let a = c.in_ok-strip_prefix.ensures.cases in
+    let e = scheme_named c.args.line.now _ a.0 a.1 c.in_ok-scheme.ensures in
+    rw (sym c.if-scheme_known.ensures) at e
+
+pub returns-else-scheme_known : goal.returns-else-scheme_known
+unfolding scheme_word known_or
+returns-else-scheme_known c =
+    let a = c.in_ok-strip_prefix.ensures.cases in
+    let e = scheme_named c.args.line.now _ a.0 a.1 c.in_ok-scheme.ensures in
+    rw (sym c.if-scheme_known.ensures) at e

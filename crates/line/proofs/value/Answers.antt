@@ -1,31 +1,34 @@
--- `line::value` meets its contract. The loop's invariant: what the whole word grows to is what the bytes that are left make of the number so
--- far. The measure is how many are left. Assumes nothing.
-use mathlib.Core.Path.{refl, sym, ap, ◌∙◌}
-use Prim.Native.Nat.{◌+◌}
-use native.Mathlib.Omega.{arith}
-use lib.ListN.{get_or, drop, drop_of_length-le}
-use Rattle.line.specs.Decimal.{with_bytes}
-use Rattle.line.proofs.Decimals.{byte_most, byte_next}
+-- `line::value` meets its contract. Assumes nothing.
+use Rattle.std.proofs.Common.{◌≡◌, ◌+◌, ◌*◌, ◌-◌, get_or, sym, ◌∙◌, arith}
+use Rattle.line.specs.Decimal.{digit}
+use Rattle.line.proofs.Decimals.{digits_end, digits_other, digits_next, digits_past}
 use Rattle.line.proofs.value.Goals as goal
 
-pub loop-i-init : goal.loop-i-init
-loop-i-init c = (omega arith, (omega arith, refl))
+pub returns-then-not-is_ascii_digit : goal.returns-then-not-is_ascii_digit
+unfolding digit
+returns-then-not-is_ascii_digit c =
+    let l = c.loop-byte in
+    sym (l.invariant.0 ∙ digits_other c.args.word.now l.value l.byte-index c.loop-byte-test.true
+    (sym c.is_ascii_digit.ensures.value ∙ c.if-not-is_ascii_digit.true))
 
-pub loop-i-preserved : goal.loop-i-preserved
-loop-i-preserved c =
-    let l = c.loop-i in
-    let w = c.args.word.now in (
-      omega arith,
-      (
-        omega (arith, c.with_byte-v.ensures, byte_most l.v (get_or w l.i 0)),
-        l.invariant.1.1 ∙ byte_next w l.v l.i c.loop-i-test.true
-            ∙ ap (λ x. with_bytes x (drop (l.i + 1) w)) (sym c.with_byte-v.ensures),
-      ),
-    )
+pub returns-in_err-value : goal.returns-in_err-value
+unfolding digit
+returns-in_err-value c =
+    let l = c.loop-byte in
+    c.from_residual.ensures ∙ sym (l.invariant.0 ∙ digits_past c.args.word.now l.value l.byte-index c.loop-byte-test.true
+    (sym c.is_ascii_digit.ensures.value ∙ c.if-not-is_ascii_digit.false) (omega (arith, c.in_err-value.ensures)))
+
+pub loop-byte-preserved : goal.loop-byte-preserved
+unfolding digit
+loop-byte-preserved c =
+    let l = c.loop-byte in
+    let e = l.invariant.0 ∙ digits_next c.args.word.now l.value l.byte-index c.loop-byte-test.true
+    (sym c.is_ascii_digit.ensures.value ∙ c.if-not-is_ascii_digit.false) in
+    let is : c.in_ok-value.value ≡ l.value * 10 + (get_or c.args.word.now l.byte-index 0 - 48) = omega
+    (arith, c.in_ok-value.ensures) in
+    (rw is e, omega (arith, c.in_ok-value.ensures))
 
 pub returns : goal.returns
-unfolding with_bytes
 returns c =
-    let l = c.loop-i in
-    let w = c.args.word.now in
-    sym (l.invariant.1.1 ∙ ap (with_bytes l.v) (drop_of_length-le w c.loop-i-test.false))
+    let l = c.loop-byte in
+    sym (l.invariant.0 ∙ digits_end c.args.word.now l.value l.byte-index c.loop-byte-test.false (omega arith))

@@ -9,10 +9,6 @@ pub returns-then-number-eq0 : goal.returns-then-number-eq0
 unfolding missing first_bar
 returns-then-number-eq0 c = sym (rw (eq-eqb _ _ c.if-number-eq0.true))
 
-pub returns-then-there : goal.returns-then-there
+pub returns-else-number-eq0 : goal.returns-else-number-eq0
 unfolding missing first_bar
-returns-then-there c = sym (rw (ne_eqb _ _ c.if-number-eq0.false, c.if-there.true))
-
-pub returns-else-there : goal.returns-else-there
-unfolding missing first_bar
-returns-else-there c = sym (rw (ne_eqb _ _ c.if-number-eq0.false, c.if-there.false))
+returns-else-number-eq0 c = sym (rw (ne_eqb _ _ c.if-number-eq0.false))

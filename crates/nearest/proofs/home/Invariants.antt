@@ -1,10 +1,6 @@
 -- `nearest::home` meets its contract. The invariant: of the first k slots p comes to `first` first, and `least` is how far that is. Assumes nothing.
-use Prim.Native.Nat.{◌-◌}
 use Rattle.nearest.proofs.Nearer.{Scanned}
 use Rattle.nearest.proofs.home.Given as goal
 
 abbrev pub invariant-loop-k : goal.invariant-loop-k
 invariant-loop-k l = Scanned l.keys l.n l.p.0 l.first l.least l.k
-
-abbrev pub decreases-loop-k : goal.decreases-loop-k
-decreases-loop-k l = l.n - l.k

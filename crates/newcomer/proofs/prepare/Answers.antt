@@ -1,97 +1,51 @@
--- `newcomer::prepare` meets its contract: each way out names the first refusal that applies, and past them all the plan is of the call's outcome.
+-- `newcomer::prepare` meets its contract: each way out is a refusal, and past them all the newcomer and who gave way sit down.
 -- Assumes nothing.
-use mathlib.Core.Path.{ap}
-use mathlib.Core.Bool.{not}
-use mathlib.Core.Bool.{true}
-use mathlib.Core.Path.{◌≡◌, refl, sym, ◌∙◌}
 use native.Mathlib.Omega.{arith}
-use borrow.Author.Tests.{not-true, not-false}
-use Rattle.rule.specs.Refusals.{is_done}
-use Rattle.newcomer.specs.Newcomer.{newcomer_refusal}
-use Rattle.call_start.specs.Start.{Start}
+use Rattle.std.proofs.lemmas.Result.{err_from_is_err_and}
+use Rattle.rule.specs.declared.Call.TheVariants.{Enrol}
 use Rattle.call_start.proofs.Refusals.{start_rises, look_refused}
-use Rattle.newcomer.proofs.Prepared.{
-  test_false,
-  test_true,
-  refused_plan,
-  Asked,
-  barred_plan,
-  shut_plan,
-  turn_from,
-  short_plan,
-  whole_plan,
-}
+use Rattle.newcomer.proofs.Prepared.{barred, shut_out, too_short, worked, turn_from}
 use Rattle.newcomer.proofs.prepare.Goals as goal
-use Rattle.newcomer.proofs.prepare.Goals.{After-newcomer_refusal-bar, Else-not-done, Else-not-done-2}
 
--- the start of the call, from where the tables are right
-found : (c : Else-not-done) → let l = c.look-l.result in
-    Start c.args.scheme c.args.relays.now c.args.tablets.now l.n l.m l.survey
-found c = c.look-l.ensures.start (test_true _ c.done-done.ensures (ap not c.if-not-done.false))
+pub returns-in_err-survey : goal.returns-in_err-survey
+returns-in_err-survey c =
+    let p = err_from_is_err_and c.from_residual.result c.from_residual.ensures.1 in
+    λ ms e. rw (p.1, p.2) (
+      look_refused _ _ _ ms (Enrol c.args.t) _ c.in_err-survey.ensures.0 c.in_err-survey.ensures.1,
+      c.in_err-survey.ensures.1,
+    )
 
--- what is asked of the newcomer's number
-asked : (c : After-newcomer_refusal-bar) → let l = c.look-l.result in
-    Asked c.args.scheme c.args.relays.now c.args.tablets.now
-    l.n l.m l.survey
-    c.args.t c.tablet_spot-at.result
-    c.tablet_there-there.result
-    c.tablet_places.result
-asked c = record {
-  start = c.look-l.ensures.start (test_true _ c.done-done.ensures (ap not c.if-not-done.false));
-  spot = c.tablet_spot-at.ensures;
-  known = c.tablet_there-there.ensures;
-  all = c.tablet_places.ensures;
-}
+pub free_place-requires : goal.free_place-requires
+free_place-requires c =
+    let r = start_rises c.in_ok-survey.ensures.1 in
+    (r.tablets_fit.there, r.tablets)
 
--- nothing bars the newcomer
-free : (c : Else-not-done-2) → is_done (newcomer_refusal c.args.t.0 c.tablet_there-there.result
-    c.tablet_places.result
-    c.look-l.result.m) ≡ true
-free c = ap is_done (sym c.newcomer_refusal-bar.ensures) ∙ test_true _ c.done-done-2.ensures (ap not c.if-not-done-2.false)
+pub returns-in_err-at : goal.returns-in_err-at
+returns-in_err-at c =
+    let p = err_from_is_err_and c.from_residual-in_err-at.result c.from_residual-in_err-at.ensures.1 in
+    λ ms e. rw (p.1, p.2) (barred c.in_ok-survey.ensures.1 c.args.t ms _ c.in_err-at.ensures)
 
--- ---- the needs
-pub returns-then-not-done : goal.returns-then-not-done
-returns-then-not-done c =
-    let refused = test_false _ c.done-done.ensures (ap not c.if-not-done.true) in
-    λ ms e. refused_plan _ _ c.no_enrolment.ensures refused
-    (look_refused _ _ _ ms _ _ (sym c.look-l.ensures.refusal) refused)
+pub seek-requires : goal.seek-requires
+seek-requires c =
+    let b = c.in_ok-survey.ensures.1 in
+    ((start_rises b).relays_fit.few, b.surveyed.row)
 
-pub tablet_spot-at-requires : goal.tablet_spot-at-requires
-tablet_spot-at-requires c = let r = start_rises (found (goal.at.tablet_spot-at-requires c).Else-not-done) in (r.tablets_fit, r.tablets)
-
-pub tablet_there-there-requires : goal.tablet_there-there-requires
-tablet_there-there-requires c =
-    let r = start_rises (found (goal.at.tablet_there-there-requires c).Else-not-done) in (r.tablets_fit, r.tablets, c.tablet_spot-at.ensures)
-
-pub returns-then-not-done-2 : goal.returns-then-not-done-2
-returns-then-not-done-2 c =
-    λ ms e. barred_plan (asked (goal.at.returns-then-not-done-2 c).After-newcomer_refusal-bar) _ _ c.newcomer_refusal-bar.ensures c.no_enrolment-then-not-done-2.ensures
-    (test_false _ c.done-done-2.ensures (ap not c.if-not-done-2.true))
-
-pub seek-sought-requires : goal.seek-sought-requires
-seek-sought-requires c = let b = found (goal.at.seek-sought-requires c).Else-not-done in ((start_rises b).relays_fit.few, b.surveyed.row)
-
-pub returns-then-not-sought : goal.returns-then-not-sought
-returns-then-not-sought c =
-    let back = goal.at.returns-then-not-sought c in
-    λ ms e. shut_plan (asked back.After-newcomer_refusal-bar) (free back.Else-not-done-2) c.seek-sought.ensures _ c.no_enrolment-then-not-sought.ensures
-    (not-true _ c.if-not-sought.true)
+pub returns-in_default : goal.returns-in_default
+returns-in_default c =
+    λ ms e. shut_out c.in_ok-survey.ensures.1 c.args.t c.in_ok-at.ensures.0 ms c.in_default.ensures
 
 pub turn-chain-requires : goal.turn-chain-requires
-turn-chain-requires c =
-    let back = goal.at.turn-chain-requires c in
-    (_, turn_from (asked back.After-newcomer_refusal-bar) (free back.Else-not-done-2) c.seek-sought.ensures (not-false _ c.if-not-sought.false))
+turn-chain-requires c = (
+  c.args.scheme,
+  turn_from c.in_ok-survey.ensures.1 c.args.t c.in_ok-at.ensures.0 c.in-Some.ensures,
+)
 
 pub returns-then-places-chain : goal.returns-then-places-chain
 returns-then-places-chain c =
-    let back = goal.at.returns-then-places-chain c in
-    λ ms e. short_plan (asked back.After-newcomer_refusal-bar) (free back.Else-not-done-2) c.seek-sought.ensures (not-false _ c.if-not-sought.false)
-    c.turn-chain.ensures
-    _ c.no_enrolment-then-places-chain.ensures (omega (arith, e, c.if-places-chain.true))
+    λ ms e. too_short c.in_ok-survey.ensures.1 c.args.t
+    c.in_ok-at.ensures.0 c.in-Some.ensures c.turn-chain.ensures ms (omega (arith, e, c.if-places-chain.true))
 
 pub returns : goal.returns
 returns c =
-    let back = goal.at.returns c in
-    λ ms e. whole_plan (asked back.After-newcomer_refusal-bar) (free back.Else-not-done-2) c.seek-sought.ensures (not-false _ c.if-not-sought.false)
-    c.turn-chain.ensures
-    _ refl refl refl refl (omega (arith, e, c.if-places-chain.false))
+    λ ms e. worked c.in_ok-survey.ensures.1 c.args.t c.in_ok-at.ensures.0
+    c.in-Some.ensures c.turn-chain.ensures c.in_ok-at.ensures.1 ms (omega (arith, e, c.if-places-chain.false))

@@ -1,12 +1,8 @@
 -- `plan::carry_out` meets its contract. The invariant: the first j tablets have their new relays, the c of them that moved are listed, and the
--- others are as they were. The measure is how many are left. Assumes nothing.
-use Prim.Native.Nat.{◌-◌, ◌≤◌}
+-- others are as they were. Assumes nothing.
 use Rattle.plan.proofs.Carried.{Carrying}
 use Rattle.plan.proofs.carry_out.Given as goal
 
 abbrev pub invariant-loop-j : goal.invariant-loop-j
 invariant-loop-j l =
-    (l.j ≤ l.m) × Carrying l.relays l.relay l.initial.tablets l.tablets l.initial.moves l.moves l.j l.c
-
-abbrev pub decreases-loop-j : goal.decreases-loop-j
-decreases-loop-j l = l.m - l.j
+    Carrying l.relays l.relay l.initial.tablets l.tablets l.initial.moves l.moves l.j l.c

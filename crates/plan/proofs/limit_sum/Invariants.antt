@@ -1,14 +1,10 @@
--- `plan::limit_sum` meets its contract. The invariant: `sum` is the limits of the first i relays, each at most the greatest limit. The measure is
--- how many are left. Assumes nothing.
+-- `plan::limit_sum` meets its contract. The invariant: `sum` is the limits of the first i relays, each at most the greatest limit. Assumes nothing.
 use mathlib.Core.Path.{◌≡◌}
-use Prim.Native.Nat.{◌*◌, ◌-◌, ◌≤◌}
+use Prim.Native.Nat.{◌*◌, ◌≤◌}
 use Rattle.ring.specs.Most.{most_limit}
 use Rattle.rule.specs.Entry.{total}
 use Rattle.meaning.specs.Meaning.{relays_in}
 use Rattle.plan.proofs.limit_sum.Given as goal
 
 abbrev pub invariant-loop-i : goal.invariant-loop-i
-invariant-loop-i l = (l.i ≤ l.n) × (l.sum ≡ total (relays_in l.relays l.i)) × (l.sum ≤ most_limit * l.i)
-
-abbrev pub decreases-loop-i : goal.decreases-loop-i
-decreases-loop-i l = l.n - l.i
+invariant-loop-i l = (l.sum ≡ total (relays_in l.relays l.i)) × (l.sum ≤ most_limit * l.i)

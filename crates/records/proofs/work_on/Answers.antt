@@ -7,6 +7,6 @@ use Rattle.records.proofs.work_on.Goals as goal
 pub returns : goal.returns
 returns c =
     works _ _ _ _ _ _ _ (kept_answers _ _ _ _ _ _ c.call.ensures)
-    (scratch_length c.args.numbers.now c.useful-places.result c.args.room c.requires
-    c.useful-places.ensures)
+    (scratch_length c.args.numbers.now c.min-places.result c.args.room c.requires
+    c.min-places.ensures)
     refl

@@ -1,45 +1,28 @@
 -- `relay_edit::edit_set` meets its contract: the first refusal that applies, and past them the relay given its limit. Assumes nothing.
-use mathlib.Core.Path.{ap}
-use mathlib.Core.Bool.{not}
-use mathlib.Core.Path.{refl}
-use Rattle.relay_edit.specs.Found.{Stands}
+use Rattle.std.proofs.lemmas.Result.{err_from_is_err_and}
 use Rattle.relay_edit.proofs.OwnTable.{stands_short}
-use Rattle.relay_edit.proofs.Edits.{set_about, found_refused, found_stands, set_refused, set_fits, set_passed}
+use Rattle.relay_edit.proofs.Edits.{set_about, found_refused, set_refused, set_fits, set_passed}
 use Rattle.relay_edit.proofs.edit_set.Goals as goal
-use Rattle.relay_edit.proofs.edit_set.Goals.{Else-not-done}
 
-stands : (c : Else-not-done) → let f = c.find_relay-f.result in let a = c.args in
-    Stands a.scheme a.relays.now a.tablets.now a.r.0 f.n f.m f.at f.there f.around
-stands c = found_stands c.find_relay-f.ensures c.done-done.ensures (ap not c.if-not-done.false)
+pub returns-in_err-f : goal.returns-in_err-f
+returns-in_err-f c =
+    let p = err_from_is_err_and c.from_residual.result c.from_residual.ensures.1 in
+    rw (p.1, p.2) (found_refused _ _ _ c.in_err-f.ensures (set_about c.args.r c.args.limit))
 
-pub returns-then-not-done : goal.returns-then-not-done
-returns-then-not-done c =
-    let a = c.args in
-    found_refused c.find_relay-f.ensures c.done-done.ensures (ap not c.if-not-done.true)
-    (set_about a.r a.limit)
-    c.no_edit.ensures
-
-pub returns-then-not-done-2 : goal.returns-then-not-done-2
-returns-then-not-done-2 c =
-    let a = c.args in
-    set_refused a.r (stands (goal.at.returns-then-not-done-2 c).Else-not-done) c.done-done-2.ensures a.limit c.set_refusal-wrong.ensures
-    (set_about a.r a.limit)
-    (ap not c.if-not-done-2.true) c.no_edit-then-not-done-2.ensures
+pub returns-in_err-set_refusal : goal.returns-in_err-set_refusal
+returns-in_err-set_refusal c =
+    let r = c.from_residual-in_err-set_refusal in
+    let p = err_from_is_err_and r.result r.ensures.1 in
+    rw (p.1, p.2) (set_refused c.args.r c.in_ok-f.ensures c.args.limit _ c.in_err-set_refusal.ensures)
 
 pub copied-own-requires : goal.copied-own-requires
-copied-own-requires c = stands_short (stands (goal.at.copied-own-requires c).Else-not-done)
+copied-own-requires c = stands_short c.in_ok-f.ensures
 
-pub limit_relay-requires : goal.limit_relay-requires
-limit_relay-requires c =
-    let a = c.args in
-    set_fits a.r (stands (goal.at.limit_relay-requires c).Else-not-done) c.done-done-2.ensures a.limit c.set_refusal-wrong.ensures
-    (ap not c.if-not-done-2.false)
-    c.copied-own.ensures
+pub change-requires : goal.change-requires
+change-requires c =
+    set_fits c.args.r c.in_ok-f.ensures c.args.limit c.in_ok-set_refusal.ensures c.copied-own.ensures
 
 pub returns : goal.returns
 returns c =
-    let a = c.args in
-    set_passed a.r (stands (goal.at.returns c).Else-not-done) c.done-done-2.ensures a.limit c.set_refusal-wrong.ensures
-    (ap not c.if-not-done-2.false)
-    c.copied-own.ensures
-    (set_about a.r a.limit) refl refl refl c.limit_relay.ensures refl
+    set_passed c.args.r c.in_ok-f.ensures c.args.limit c.in_ok-set_refusal.ensures c.copied-own.ensures
+    c.change.ensures

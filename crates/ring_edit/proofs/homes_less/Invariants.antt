@@ -1,10 +1,6 @@
--- `ring_edit::homes_less` meets its contract. The invariant: the first j homes have moved. The measure is how many are left. Assumes nothing.
-use Prim.Native.Nat.{◌-◌, ◌≤◌}
+-- `ring_edit::homes_less` meets its contract. The invariant: the first homes have moved. Assumes nothing.
 use Rattle.ring_edit.specs.Homes.{HomesMoved, less_at}
 use Rattle.ring_edit.proofs.homes_less.Given as goal
 
-abbrev pub invariant-loop-j : goal.invariant-loop-j
-invariant-loop-j l = (l.j ≤ l.m) × HomesMoved (less_at l.s) l.j l.initial.home l.home
-
-abbrev pub decreases-loop-j : goal.decreases-loop-j
-decreases-loop-j l = l.m - l.j
+abbrev pub invariant-loop-home : goal.invariant-loop-home
+invariant-loop-home l = HomesMoved (less_at l.s) l.home-index l.initial.home-items l.home-items

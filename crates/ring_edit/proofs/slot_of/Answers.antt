@@ -1,4 +1,4 @@
--- `ring_edit::slot_of` meets its contract. The invariant: the first k slots have another relay. The measure is how many are left. Assumes nothing.
+-- `ring_edit::slot_of` meets its contract. The invariant: the first k slots have another relay. Assumes nothing.
 use native.Mathlib.Omega.{arith}
 use Rattle.ring_edit.proofs.Shifts.{unmet_none, unmet_more, unmet_end}
 use Rattle.ring_edit.proofs.slot_of.Goals as goal

@@ -1,18 +1,19 @@
 -- `roster::take_over` meets its contract: scratch holds the two blocks, and the lent tables are written where these are full tables.
 -- Assumes nothing.
-use mathlib.Core.Path.{ap}
-use mathlib.Core.Bool.{not}
-use Rattle.roster.proofs.TakenOver.{taken_not, taken_all}
+use mathlib.Core.Path.{refl}
+use Rattle.roster.specs.Inner.{full_blocks}
 use Rattle.roster.proofs.take_over.Goals as goal
 
-pub returns-then-not-full : goal.returns-then-not-full
-returns-then-not-full c =
-    taken_not _ _ _ _ c.entries.ensures
-    c.entries-2.ensures c.full_tables-full.ensures (ap not c.if-not-full.true)
+pub returns-then-not-full_tables : goal.returns-then-not-full_tables
+unfolding full_blocks
+returns-then-not-full_tables c =
+    (refl, record { full = cc (c.entries.ensures, c.entries-2.ensures, c.full_tables.ensures); relays = refl; tablets = refl })
 
 pub returns : goal.returns
+unfolding full_blocks
 returns c =
-    taken_all _ _ _ _ c.entries.ensures
-    c.entries-2.ensures c.full_tables-full.ensures
-    (ap not c.if-not-full.false) c.fill_table.ensures
-    c.fill_table-2.ensures
+    record {
+      full = cc (c.entries.ensures, c.entries-2.ensures, c.full_tables.ensures);
+      relays = cc (c.entries.ensures, c.fill_table.ensures);
+      tablets = cc (c.entries-2.ensures, c.fill_table-2.ensures);
+    }

@@ -1,32 +1,19 @@
--- `row::redirect` meets its contract. The invariant: the first i slots are led on, the others as they were. Assumes nothing.
-use Rattle.std.proofs.Common.{◌≡◌, ℕ, ◌+◌, ◌%◌, cond, eqb, get_or, ap, ◌∙◌, arith}
-use Rattle.ring.specs.Most.{most_relays}
+-- `row::redirect` meets its contract. The invariant: the first slots are led on, the others as they were. Assumes nothing.
+use Rattle.std.proofs.Common.{refl, arith, eq-eqb, ne_eqb}
 use Rattle.row.proofs.Shut.{redirected_none, redirected_more, redirected_end}
 use Rattle.row.proofs.redirect.Goals as goal
-use Rattle.row.proofs.redirect.Goals.{After-wrapping_sub_u8-by}
+use Rattle.row.proofs.redirect.Goals.{then-x-k, else-x-k}
 
--- from k it lies so far to where they are led
-round : (c : After-wrapping_sub_u8-by) → (c.args.k + c.wrapping_sub_u8-by.result) % most_relays
-    ≡ c.args.to
-round c = omega (arith, c.wrapping_sub_u8-by.ensures)
+pub loop-x-init : goal.loop-x-init
+loop-x-init c = redirected_none _ _ _
 
-pub loop-i-init : goal.loop-i-init
-loop-i-init c = (omega arith, redirected_none _ _ _)
-
-pub bounds-next-i : goal.bounds-next-i
-bounds-next-i c = omega (arith, c.loop-i.invariant.1.size)
-
-pub bounds-next-i-in-loop-i : goal.bounds-next-i-in-loop-i
-bounds-next-i-in-loop-i c = omega (arith, c.loop-i.invariant.1.size)
-
-pub loop-i-preserved : goal.loop-i-preserved
-loop-i-preserved c =
-    let l = c.loop-i in
-    let x = get_or l.next l.i 0 in (
-      omega arith,
-      redirected_more _ l.invariant.1 (omega (arith, l.invariant.1.size))
-          (c.instead.ensures ∙ ap (λ (t : ℕ). cond (eqb x c.args.k) t x) (round (goal.at.loop-i-preserved c).After-wrapping_sub_u8-by)),
-    )
+pub loop-x-preserved : goal.loop-x-preserved
+loop-x-preserved c =
+    let r = c.loop-x.invariant in
+    elim c.if-x-k.branch [
+      | then-x-k w ↦ rw w.next-is (redirected_more _ r (omega (arith, r.size)) (rw (eq-eqb _ _ w.if-x-k.true) refl))
+      | else-x-k w ↦ rw w.next-is (redirected_more _ r (omega (arith, r.size)) (rw (ne_eqb _ _ w.if-x-k.false) refl))
+    ]
 
 pub returns : goal.returns
-returns c = redirected_end c.loop-i.invariant.0 c.loop-i-test.false c.loop-i.invariant.1
+returns c = redirected_end c.loop-x.auto.x-index-end c.loop-x-test.false c.loop-x.invariant

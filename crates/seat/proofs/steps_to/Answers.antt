@@ -1,6 +1,5 @@
 -- `seat::steps_to` meets its contract: on the way there the walk comes round where the slot is before the one that it starts from.
 -- Assumes nothing.
-use mathlib.Core.Path.{sym}
 use native.Mathlib.Omega.{arith}
 use borrow.Author.Tests.{le-leb, lt-leb}
 use Rattle.slots.specs.Slots.{steps_to}
@@ -8,8 +7,8 @@ use Rattle.seat.proofs.steps_to.Goals as goal
 
 pub returns-then-from-to : goal.returns-then-from-to
 unfolding steps_to
-returns-then-from-to c = sym (rw (le-leb _ _ c.if-from-to.true))
+returns-then-from-to c = rw (le-leb c.args.h c.args.k (omega arith)) (omega arith)
 
 pub returns-else-from-to : goal.returns-else-from-to
 unfolding steps_to
-returns-else-from-to c = sym (rw (lt-leb c.args.h c.args.k (omega (arith, c.if-from-to.false))))
+returns-else-from-to c = rw (lt-leb c.args.h c.args.k (omega arith)) (omega arith)

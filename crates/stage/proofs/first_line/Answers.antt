@@ -4,14 +4,14 @@ use Rattle.stage.specs.Stage.{first}
 use Rattle.stage.proofs.Says.{says_text}
 use Rattle.stage.proofs.first_line.Goals as goal
 
-pub returns-in-Scheme : goal.returns-in-Scheme
+pub returns-in-Some : goal.returns-in-Some
 unfolding first
-returns-in-Scheme c =
-    rw (sym c.in-Scheme.ensures)
+returns-in-Some c =
+    rw (sym c.in-Some.ensures)
     (says_text c.echo-due.ensures)
 
-pub returns-in-Other : goal.returns-in-Other
+pub returns-in-None : goal.returns-in-None
 unfolding first
-returns-in-Other c =
-    rw (sym c.in-Other.ensures)
+returns-in-None c =
+    rw (sym c.in-None.ensures)
     c.other_line.ensures

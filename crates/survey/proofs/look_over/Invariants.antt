@@ -2,7 +2,6 @@
 -- position, or past it, may begin at h. Assumes nothing.
 use mathlib.Core.Bool.{true}
 use mathlib.Core.Path.{◌≡◌}
-use Prim.Native.Nat.{◌-◌, ◌≤◌}
 use Rattle.ring.specs.Scheme.{positions}
 use Rattle.tables.specs.Placement.{placed}
 use Rattle.home.specs.Home.{key_at, Begins}
@@ -11,10 +10,6 @@ use Rattle.survey.proofs.look_over.Given as goal
 
 abbrev pub invariant-loop-j : goal.invariant-loop-j
 invariant-loop-j l =
-    (l.j ≤ l.m) × (l.right ≡ true) × (true ≡ placed (positions l.scheme) l.relays l.tablets l.n l.j) × Begins l.keys l.n (key_at l.from.0) l.h
+    (true ≡ placed (positions l.scheme) l.relays l.tablets l.n l.j) × Begins l.keys l.n (key_at l.from.0) l.h
     × Surveyed (positions l.scheme) l.relays l.tablets l.n l.j
-    (record { right = l.right; keys = l.keys; room = l.room; next = l.next; last = l.last; home = l.home; slot = l.slot })
-
-abbrev pub decreases-loop-j : goal.decreases-loop-j
-decreases-loop-j l =
-    l.m - l.j
+    (record { n = l.n; m = l.j; keys = l.keys; room = l.room; next = l.next; last = l.last; home = l.home; slot = l.slot })

@@ -4,4 +4,4 @@ use Rattle.wairepomuro.proofs.wairepomuro_read.Goals as goal
 
 pub returns : goal.returns
 returns c =
-    serves_reading _ _ _ c.read-made.ensures c.number.ensures
+    serves_reading _ _ _ c.read-made.result c.read-made.ensures.answers c.answer.ensures c.unwrap_or.ensures

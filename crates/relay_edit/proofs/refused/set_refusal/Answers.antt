@@ -1,31 +1,24 @@
 -- `relay_edit::refused::set_refusal` meets its contract: each way out is the first refusal that applies. Assumes nothing.
-use mathlib.Core.Path.{ap}
-use mathlib.Core.Bool.{not}
-use mathlib.Core.Path.{sym, ◌∙◌}
-use borrow.Author.Tests.{eq-eqb, ne_eqb}
+use mathlib.Core.Path.{refl}
+use Rattle.std.proofs.lemmas.Result.{err_from_is_err_and}
+use Rattle.rule.specs.Refusals.{is_done, first_bar}
 use Rattle.relay_edit.specs.Refused.{set_refusal}
-use Rattle.relay_edit.proofs.Bars.{bar_first, bar_next, bar_none}
+use Rattle.relay_edit.proofs.Bars.{numbers_first, numbers_past}
 use Rattle.relay_edit.proofs.refused.set_refusal.Goals as goal
 
-pub returns-then-r-eq0 : goal.returns-then-r-eq0
+pub returns-in_err-numbers_refusal : goal.returns-in_err-numbers_refusal
 unfolding set_refusal
-returns-then-r-eq0 c = bar_first _ (eq-eqb _ _ c.if-r-eq0.true)
-
-pub returns-then-too_large : goal.returns-then-too_large
-unfolding set_refusal
-returns-then-too_large c =
-    bar_next _ _ (ne_eqb _ _ c.if-r-eq0.false)
-    (bar_first _ (sym c.too_large.ensures ∙ c.if-too_large.true))
+returns-in_err-numbers_refusal c =
+    let p = err_from_is_err_and c.from_residual.result c.from_residual.ensures.1 in
+    rw (p.1, p.2) (numbers_first _ _ _ c.in_err-numbers_refusal.ensures)
 
 pub returns-then-not-there : goal.returns-then-not-there
 unfolding set_refusal
-returns-then-not-there c =
-    bar_next _ _ (ne_eqb _ _ c.if-r-eq0.false)
-    (bar_next _ _ (sym c.too_large.ensures ∙ c.if-too_large.false) (bar_first _ (ap not c.if-not-there.true)))
+returns-then-not-there c = (
+  numbers_past _ _ _ c.in_ok-numbers_refusal.ensures.0 (unfold first_bar in (rw c.if-not-there.true)),
+  unfold is_done in refl,
+)
 
 pub returns : goal.returns
 unfolding set_refusal
-returns c =
-    bar_next _ _ (ne_eqb _ _ c.if-r-eq0.false)
-    (bar_next _ _ (sym c.too_large.ensures ∙ c.if-too_large.false)
-    (bar_next _ _ (ap not c.if-not-there.false) (bar_none)))
+returns c = numbers_past _ _ _ c.in_ok-numbers_refusal.ensures.0 (unfold first_bar in (rw c.if-not-there.false))

@@ -1,8 +1,0 @@
--- `ring::relay_at` meets its contract: the relays' tag is handed to `place`.
--- Assumes nothing.
-use Rattle.ring.specs.Scheme.{positions}
-use Rattle.ring.proofs.relay_at.Goals as goal
-
-pub returns : goal.returns
-unfolding positions
-returns c = c.place.ensures
