@@ -1,5 +1,4 @@
 -- An answer goes out whole.
---   takes_due      no more bytes are due than the slice for the answer has
 --   takes_whole    the bytes that are due are the whole answer, where the slice holds the longest
 -- Assumes nothing.
 use mathlib.Core.List.{List, [], ◌∷◌}
@@ -15,7 +14,6 @@ use Rattle.call_start.specs.Promise.{Lists, after}
 use Rattle.rule.specs.declared.Call.{Call}
 use Rattle.line.specs.Line.{scheme_of, meaning_of}
 use Rattle.text.specs.Puts.{Puts}
-use Rattle.text.proofs.Puts.{puts_within}
 use Rattle.answer.proofs.Room.{answer_room}
 use Rattle.stage.specs.declared.Stage.{Stage}
 use Rattle.stage.specs.declared.Stage.TheVariants.{First, Under, Over}
@@ -63,9 +61,6 @@ puts_whole {out} {t} {out'} {n} p h =
     ∙ take-append_seam t (drop (0 + length t) out)
 
 module _ {at : Standing} {rs ts ms line out : List ℕ} {b : ℕ} {r : Standing} {l : Lists ℕ} {line' out' : List ℕ} where
-  pub takes_due : Takes at rs ts ms line out b r l line' out' → r.due ≤ length out'
-  takes_due t = puts_within t.shows.answer.puts
-
   pub takes_whole : Takes at rs ts ms line out b r l line' out' → length line ≤ 24
       → 44 + 35 * (length l.moves / 3) ≤ length out
       → take r.due out' ≡ (taken at rs ts ms line b).reply.text

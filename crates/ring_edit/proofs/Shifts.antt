@@ -2,10 +2,9 @@
 --   unmet_none, unmet_more                                 a look for a relay's slot
 --   moved_none, moved_more, moved_all                      homes moved one after another, or keys
 --   moved_down, less_keys, moved_up, more_keys             keys moved by a slot, and one left out or put among them
---   puts_in                                                keys and homes with one relay more
 -- Assumes nothing.
 use mathlib.Core.List.{List, ◌++◌}
-use mathlib.Core.Path.{◌≡◌, refl, ap, ◌∙◌, subst}
+use mathlib.Core.Path.{◌≡◌, refl, ap, ◌∙◌}
 use Prim.Native.Nat.{ℕ, ◌+◌, ◌-◌, ◌≤◌, ◌<◌}
 use native.Mathlib.Nat.{not-suc-le-zero}
 use native.Mathlib.Omega.{arith}
@@ -16,12 +15,10 @@ use Rattle.std.specs.List.{CopiedTo, SameBelow}
 use Rattle.std.proofs.lemmas.List.{length-append, length-drop, length-take-le, get_or-take, get_or-drop, get_or_append_left, get_or-append_right}
 use lib.Seq.{get_or-set_same, get_or-set_other}
 use Rattle.ring.specs.Most.{most_relays}
-use Rattle.ring.specs.Scheme.{Positions}
 use Rattle.tables.proofs.Loops.{stored}
 use Rattle.order.specs.Keys.{slot_relay, Slot}
-use Rattle.home.specs.Home.{key_at, Home}
 use Rattle.ring_edit.specs.Shift.{skip, raised, lowered, KeysLess, KeysMore}
-use Rattle.ring_edit.specs.Homes.{HomesMoved, slot_after, more_at, PutIn}
+use Rattle.ring_edit.specs.Homes.{HomesMoved}
 use Rattle.ring_edit.proofs.Skips.{Skip, low, high, skip_cases, skip_off}
 
 -- ---- the slot of a relay
@@ -110,16 +107,4 @@ more_keys after {s = s} {x = x} e h o m = record {
   size = simp length-set e;
   others = λ k d. get_or-set_other after s (skip s k) x 0 (skip_off s k) ∙ m k d ∙ o.moved k d;
   one = get_or-set_same after s x 0 (omega arith);
-}
-
--- ---- both
-
-pub puts_in : {p : Positions} {ts keys more home home' : List ℕ} {n m at q s k : ℕ} → Home keys n (key_at q + at) s
-    → KeysMore n s at (key_at q + at) keys more → k ≡ slot_after n s → HomesMoved (more_at p ts more s k) m home home'
-    → PutIn p ts n m at q keys home (record { keys = more; home = home' })
-puts_in {p} {ts} {more = more} {home} {home'} {m = m} {s = s} o t e d = record {
-  slot = s;
-  from = o;
-  longer = t;
-  moved = subst (λ (k : ℕ). HomesMoved (more_at p ts more s k) m home home') e d;
 }
