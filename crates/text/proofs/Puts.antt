@@ -2,7 +2,7 @@
 --   puts_one                    the promise binds: two slices, and two places behind, that it allows are equal
 --   puts_nothing, puts_none     nothing, and one byte where there is no room
 --   puts_text, puts_append      the same text, one text behind another
---   puts_within, puts_length    the place behind is in the slice, whose length stays
+--   puts_length                 the slice's length stays
 -- Assumes nothing.
 use mathlib.Core.List.{List, [], ◌∷◌, ◌++◌}
 use mathlib.Core.Path.{◌≡◌, refl, sym, ap, ◌∙◌}
@@ -38,9 +38,6 @@ puts_none l at b h = record { places = sym (set_out l at b h); behind = omega ar
 
 pub puts_length : {l : List ℕ} {at : ℕ} {s m : List ℕ} {n : ℕ} → Puts l at s m n → length m ≡ length l
 puts_length {l} {at} {s} p = ap length p.places ∙ length-sets l at s
-
-pub puts_within : {l : List ℕ} {at : ℕ} {s m : List ℕ} {n : ℕ} → Puts l at s m n → n ≤ length m
-puts_within p = omega (arith, puts_length p, p.behind)
 
 pub puts_text : {s t : List ℕ} → s ≡ t → {l : List ℕ} {at : ℕ} {m : List ℕ} {n : ℕ} → Puts l at s m n → Puts l at t m n
 puts_text e p = rw e at p
