@@ -70,7 +70,7 @@ A roster that fills its tables is meant to cost about a check. Instructions of r
 
 const SCRATCH: &str = "
 Both the library and plain Rust first clear scratch for the largest roster: 35 thousand instructions on every ring, at one a byte. Plain Rust copies
-the entries twice at one a byte, too, where the library's own loops take several bytes at a time.
+the entries twice at one a byte, too, and the library once: its loop over the roster's bytes takes several at a time.
 ";
 
 fn readings(all: &[Measured]) -> String {

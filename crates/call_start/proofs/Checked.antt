@@ -90,10 +90,11 @@ module _ (s : ℕ) (rs ts : List ℕ) where
           },
         )
 
-    pub placement : (r : Result Survey Refusal)
-        → MatchResult r (λ v. (placed (positions s) rs ts n m ≡ true) × Surveyed (positions s) rs ts n m v)
+    -- whatever comes with a look that is done, of it is the survey
+    pub placement : {A : Type 0} (of : A → Survey) (r : Result A Refusal)
+        → MatchResult r (λ a. (placed (positions s) rs ts n m ≡ true) × Surveyed (positions s) rs ts n m (of a))
         (λ why. (placed (positions s) rs ts n m ≡ false) × (why ≡ TablesNotRight))
-        → MatchResult r (λ v. (tables_refusal s rs ts ≡ Done) × Start s rs ts v.n v.m v)
+        → MatchResult r (λ a. (tables_refusal s rs ts ≡ Done) × Start s rs ts (of a).n (of a).m (of a))
         (λ why. (tables_refusal s rs ts ≡ why) × (is_done why ≡ false))
-    placement (Ok v) e = looked e
-    placement (Err why) (e, i) = rw i (misplaced e)
+    placement of (Ok a) e = looked e
+    placement of (Err why) (e, i) = rw i (misplaced e)

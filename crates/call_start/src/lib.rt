@@ -23,7 +23,24 @@ fn first_look(
     entries::shapes(relays, tablets).ok_or(rule::Refusal::TablesNotRight)
 }
 
-// The survey of right tables, or which of the first two refusals applies.
+// What a look at right tables learns, into a survey that is lent; or which of the first two refusals applies, and then nobody may ask what the
+// survey holds.
+pub fn look_into(
+    scheme: u32,
+    relays: &[u32],
+    tablets: &[u32],
+    survey: &mut survey::Survey,
+) -> Result<(), rule::Refusal>
+    ensures { MatchResult result
+        (λ _. (tables_refusal scheme relays.now tablets.now ≡ Done)
+        × Start scheme relays.now tablets.now survey.new.n survey.new.m survey.new)
+        (λ why. (tables_refusal scheme relays.now tablets.now ≡ why) × (is_done why ≡ false)) }
+{
+    let counts = first_look(scheme, relays, tablets)?;
+    survey.learn(scheme, relays, tablets, counts.n, counts.m)
+}
+
+// The same, as a survey of its own.
 pub fn look(scheme: u32, relays: &[u32], tablets: &[u32]) -> Result<survey::Survey, rule::Refusal>
     ensures { MatchResult result
         (λ s. (tables_refusal scheme relays.now tablets.now ≡ Done)
@@ -38,8 +55,9 @@ pub fn look(scheme: u32, relays: &[u32], tablets: &[u32]) -> Result<survey::Surv
 pub fn check(scheme: u32, relays: &[u32], tablets: &[u32]) -> rule::Refusal
     ensures { result ≡ tables_refusal scheme relays.now tablets.now }
 {
-    match look(scheme, relays, tablets) {
-        Ok(_) => rule::Refusal::Done,
+    let mut survey = survey::Survey::new();
+    match look_into(scheme, relays, tablets, &mut survey) {
+        Ok(()) => rule::Refusal::Done,
         Err(why) => why,
     }
 }

@@ -29,7 +29,8 @@ fn found(
         (after scheme relays.now tablets.now moves (Find t))
         result (lists relays.now tablets.now moves) }
 {
-    let survey = call_start::look(scheme, relays, tablets)?;
+    let mut survey = survey::Survey::new();
+    call_start::look_into(scheme, relays, tablets, &mut survey)?;
     let seat = seat::seat_of(tablets, &survey, t)?;
     Ok(rule::Reply {
         refusal: rule::Refusal::Done,

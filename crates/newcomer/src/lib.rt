@@ -82,7 +82,8 @@ pub fn prepare(
     ensures { (ms : List ℕ) → places ≡ length ms / 3
         → Prepared scheme relays.now tablets.now ms t result }
 {
-    let survey = call_start::look(scheme, relays, tablets)?;
+    let mut survey = survey::Survey::new();
+    call_start::look_into(scheme, relays, tablets, &mut survey)?;
     let m = survey.m;
     let at = free_place(tablets, m, t)?;
     let Some(walk) = seek(scheme, &survey, t) else {

@@ -24,13 +24,15 @@ pub(crate) fn find_relay(
         (λ f. Stands scheme relays.now tablets.now r.0 f)
         (λ why. (tables_refusal scheme relays.now tablets.now ≡ why) × (is_done why ≡ false)) }
 {
+    let mut survey = survey::Survey::new();
+    call_start::look_into(scheme, relays, tablets, &mut survey)?;
     let survey::Survey {
         n,
         m,
         keys,
         home,
         ..
-    } = call_start::look(scheme, relays, tablets)?;
+    } = survey;
     // The place is handed on either way: a number is refused before a relay that is there already.
     let (at, there) = match lookup::spot(relays, n, r.0) {
         Ok(at) => (at, true),

@@ -26,12 +26,12 @@ fn tables_fit(n: usize, m: usize, relays: &[u32], tablets: &[u32]) -> bool
 }
 
 // The trailer of a roster that these tables can take, or the first refusal but for the content's.
-#[tactic(auto, unfolding(crate::specs::Reading::refusal, rule::specs::Refusals::first_bar, rule::specs::Refusals::is_done, layout::specs::Opened::trailer_of, layout::specs::Opened::opened))]
+#[tactic(auto, unfolding(crate::specs::Reading::refusal, rule::specs::Refusals::first_bar, rule::specs::Refusals::is_done, layout::specs::Opened::trailer_of, layout::specs::Opened::long_trailer, layout::specs::Opened::opened, layout::specs::Roster::shape_right))]
 fn trailer(bytes: &[u8], relays: &[u32], tablets: &[u32]) -> Result<layout::Trailer, rule::Refusal>
     ensures { MatchResult result (λ t. Open bytes.now relays.now tablets.now t)
         (λ why. (refusal bytes.now relays.now tablets.now ≡ why) × (is_done why ≡ false)) }
 {
-    let t = layout::open(bytes).ok_or(rule::Refusal::RosterShapeWrong)?;
+    let t = layout::open(bytes).or(Err(rule::Refusal::RosterShapeWrong))?;
     if !ring::scheme_known(t.scheme) {
         return Err(rule::Refusal::SchemeUnknown);
     }
@@ -47,8 +47,9 @@ fn full_tables(scheme: u32, relays: &[u32], tablets: &[u32]) -> bool
     requires { known scheme ≡ true }
     ensures { result ≡ full_tables scheme relays.now tablets.now }
 {
-    match &call_start::look(scheme, relays, tablets) {
-        Ok(s) => s.n == tables::places(relays) && s.m == tables::places(tablets),
+    let mut survey = survey::Survey::new();
+    match call_start::look_into(scheme, relays, tablets, &mut survey) {
+        Ok(()) => survey.n == tables::places(relays) && survey.m == tables::places(tablets),
         Err(_) => false,
     }
 }

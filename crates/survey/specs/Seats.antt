@@ -10,6 +10,19 @@ use Rattle.home.specs.Home.{key_at, Home}
 use Rattle.row.specs.Row.{Row}
 use Rattle.survey.specs.declared.Survey.{Survey}
 
+-- before anything is learnt
+unfoldable pub unlearnt : Survey
+unlearnt = record {
+  n = 0;
+  m = 0;
+  keys = replicate most_relays 0;
+  room = replicate most_relays 0;
+  next = replicate most_relays 0;
+  last = replicate most_relays 0;
+  home = replicate most_tablets 0;
+  slot = replicate most_tablets 0;
+}
+
 -- for each relay one more than the place of the greatest of the first j tablets that it holds; 0 where it holds none
 unfoldable pub last_after : Positions → List ℕ → List ℕ → ℕ → ℕ → List ℕ
 last_after p rs ts n zero = replicate most_relays 0

@@ -8,7 +8,7 @@ ghost use Rattle.ring.specs.Scheme.{positions};
 ghost use Rattle.rule.specs.declared.Refusal.TheVariants.{TablesNotRight};
 ghost use Rattle.tables.specs.Table.{relay_places, relay_number, RelaysIn, tablet_places, tablet_relay, TabletsIn};
 ghost use Rattle.tables.specs.Placement.{placed};
-ghost use Rattle.survey.specs.Seats.{Surveyed};
+ghost use Rattle.survey.specs.Seats.{unlearnt, Surveyed};
 
 // What is known once the tables are found right: how many relays and tablets there are, the relays in ring order, the room left, the
 // row, for each relay one more than the place of its greatest tablet, and for each tablet its home and its relay's slot.
@@ -40,8 +40,75 @@ fn stands_beside(
     0 < room[i] && tables::relay_number(relays, i) == tables::tablet_relay(tablets, j)
 }
 
-// What is learnt on the way through the m tablets, where the relay written beside each is the rule's. The refusal is made here, and no
-// Option for the caller to turn into a Result: each such turn copies the survey, which is 12 kB.
+impl Survey {
+    // Nothing is learnt yet.
+    #[tactic(auto, unfolding(crate::specs::Seats::unlearnt))]
+    pub fn new() -> Survey
+        ensures { result ≡ unlearnt }
+    {
+        Survey {
+            n: 0,
+            m: 0,
+            keys: [0; ring::MOST_RELAYS],
+            room: [0; ring::MOST_RELAYS],
+            next: [0; ring::MOST_RELAYS],
+            last: [0; ring::MOST_RELAYS],
+            home: [0; ring::MOST_TABLETS],
+            slot: [0; ring::MOST_TABLETS],
+        }
+    }
+
+    // What is learnt on the way through the m tablets, where the relay written beside each is the rule's. It is written where it is to
+    // stay: handed out in a Result, its 12 kB would be copied.
+    pub fn learn(
+        &mut self,
+        scheme: u32,
+        relays: &[u32],
+        tablets: &[u32],
+        n: usize,
+        m: usize,
+    ) -> Result<(), rule::Refusal>
+        requires { RelaysIn relays.now n × TabletsIn tablets.now m }
+        ensures { MatchResult result
+            (λ _. (placed (positions scheme) relays.now tablets.now n m ≡ true)
+            × Surveyed (positions scheme) relays.now tablets.now n m self.new)
+            (λ why. (placed (positions scheme) relays.now tablets.now n m ≡ false)
+            × (why ≡ TablesNotRight)) }
+    {
+        let position = placing::relay_positions(scheme, relays, n);
+        let keys = order::ring_order(&position, n);
+        let in_turn = home::in_turn(scheme);
+        let start = home::arc_starts(&keys, n, in_turn);
+        let mut room = placing::relay_limits(relays, n);
+        let mut next = row::first_row(&keys, &room, n);
+        let mut last = [0u16; ring::MOST_RELAYS];
+        let mut from = ring::Position(0);
+        let mut h: usize = 0;
+        for j in 0..m {
+            let p = ring::tablet_at(scheme, tables::tablet_number(tablets, j));
+            h = home::home_of(&keys, &start, n, in_turn, h, from, p);
+            from = p;
+            let k = row::led_to(&next, h);
+            let i = order::slot_relay(&keys, k);
+            if !stands_beside(relays, tablets, &room, i, j) {
+                return Err(rule::Refusal::TablesNotRight);
+            }
+            self.home[j] = (h % ring::MOST_RELAYS) as u8;
+            self.slot[j] = k as u8;
+            row::take(&keys, &mut room, &mut next, n, k);
+            last[i] = (j + 1) as u16;
+        }
+        self.n = n;
+        self.m = m;
+        self.keys = keys;
+        self.room = room;
+        self.next = next;
+        self.last = last;
+        Ok(())
+    }
+}
+
+// The same, as a survey of its own.
 pub fn look_over(
     scheme: u32,
     relays: &[u32],
@@ -56,39 +123,7 @@ pub fn look_over(
         (λ why. (placed (positions scheme) relays.now tablets.now n m ≡ false)
         × (why ≡ TablesNotRight)) }
 {
-    let position = placing::relay_positions(scheme, relays, n);
-    let keys = order::ring_order(&position, n);
-    let in_turn = home::in_turn(scheme);
-    let start = home::arc_starts(&keys, n, in_turn);
-    let mut room = placing::relay_limits(relays, n);
-    let mut next = row::first_row(&keys, &room, n);
-    let mut last = [0u16; ring::MOST_RELAYS];
-    let mut home = [0u8; ring::MOST_TABLETS];
-    let mut slot = [0u8; ring::MOST_TABLETS];
-    let mut from = ring::Position(0);
-    let mut h: usize = 0;
-    for j in 0..m {
-        let p = ring::tablet_at(scheme, tables::tablet_number(tablets, j));
-        h = home::home_of(&keys, &start, n, in_turn, h, from, p);
-        from = p;
-        let k = row::led_to(&next, h);
-        let i = order::slot_relay(&keys, k);
-        if !stands_beside(relays, tablets, &room, i, j) {
-            return Err(rule::Refusal::TablesNotRight);
-        }
-        home[j] = (h % ring::MOST_RELAYS) as u8;
-        slot[j] = k as u8;
-        row::take(&keys, &mut room, &mut next, n, k);
-        last[i] = (j + 1) as u16;
-    }
-    Ok(Survey {
-        n,
-        m,
-        keys,
-        room,
-        next,
-        last,
-        home,
-        slot,
-    })
+    let mut survey = Survey::new();
+    survey.learn(scheme, relays, tablets, n, m)?;
+    Ok(survey)
 }

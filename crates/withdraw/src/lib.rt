@@ -35,7 +35,8 @@ fn withdrawn(
         (Withdraw t))
         result (lists relays.now tablets.new moves.new) }
 {
-    let survey = call_start::look(scheme, relays, tablets)?;
+    let mut survey = survey::Survey::new();
+    call_start::look_into(scheme, relays, tablets, &mut survey)?;
     let seat = seat::seat_of(tablets, &survey, t)?;
     let chain = holes::holes(&survey, seat.at);
     let movers = &chain.places[..chain.count];

@@ -5,4 +5,4 @@ use Rattle.call_start.proofs.look.Goals as goal
 
 pub returns : goal.returns
 returns c =
-    placement _ _ _ (words_of _ c.type_inv.relays) (words_of _ c.type_inv.tablets) c.in_ok-counts.ensures _ c.look_over.ensures
+    placement _ _ _ (words_of _ c.type_inv.relays) (words_of _ c.type_inv.tablets) c.in_ok-counts.ensures (λ v. v) _ c.look_over.ensures

@@ -8,19 +8,19 @@ use Rattle.seat.proofs.Replies.{missing_find, seat_refused}
 use Rattle.find.proofs.Outcomes.{find_found}
 use Rattle.find.proofs.found.Goals as goal
 
-pub returns-in_err-survey : goal.returns-in_err-survey
-returns-in_err-survey c ms =
+pub returns-in_err-look_into : goal.returns-in_err-look_into
+returns-in_err-look_into c ms =
     let p = err_from_is_err_and c.from_residual.result c.from_residual.ensures.1 in
-    rw (p.1, p.2) (look_answers _ _ _ c.in_err-survey.ensures _ ms refl, c.in_err-survey.ensures.1)
+    rw (p.1, p.2) (look_answers _ _ _ c.in_err-look_into.ensures _ ms refl, c.in_err-look_into.ensures.1)
 
 pub seat_of-requires : goal.seat_of-requires
-seat_of-requires c = start_slotted c.in_ok-survey.ensures.1
+seat_of-requires c = start_slotted c.in_ok-look_into.ensures.1
 
 pub returns-in_err-seat : goal.returns-in_err-seat
 returns-in_err-seat c ms =
-    let b = c.in_ok-survey.ensures.1 in
+    let b = c.in_ok-look_into.ensures.1 in
     let p = err_from_is_err_and c.from_residual-in_err-seat.result c.from_residual-in_err-seat.ensures.1 in
     rw (p.1, p.2) (seat_refused b _ c.in_err-seat.ensures _ (missing_find b _) ms, c.in_err-seat.ensures.1)
 
 pub returns : goal.returns
-returns c = find_found c.in_ok-survey.ensures.1 _ c.in_ok-seat.ensures.0 c.in_ok-seat.ensures.1
+returns c = find_found c.in_ok-look_into.ensures.1 _ c.in_ok-seat.ensures.0 c.in_ok-seat.ensures.1

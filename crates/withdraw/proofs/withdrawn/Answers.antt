@@ -9,31 +9,31 @@ use Rattle.withdraw.proofs.Known.{start_sweeps}
 use Rattle.withdraw.proofs.Outcomes.{withdraw_short, withdraw_fillers, withdraw_done}
 use Rattle.withdraw.proofs.withdrawn.Goals as goal
 
-pub returns-in_err-survey : goal.returns-in_err-survey
-returns-in_err-survey c =
+pub returns-in_err-look_into : goal.returns-in_err-look_into
+returns-in_err-look_into c =
     let p = err_from_is_err_and c.from_residual.result c.from_residual.ensures.1 in
-    rw (p.1, p.2) (look_answers _ _ _ c.in_err-survey.ensures _ _ refl, c.in_err-survey.ensures.1)
+    rw (p.1, p.2) (look_answers _ _ _ c.in_err-look_into.ensures _ _ refl, c.in_err-look_into.ensures.1)
 
 pub seat_of-requires : goal.seat_of-requires
-seat_of-requires c = start_slotted c.in_ok-survey.ensures.1
+seat_of-requires c = start_slotted c.in_ok-look_into.ensures.1
 
 pub returns-in_err-seat : goal.returns-in_err-seat
 returns-in_err-seat c =
-    let b = c.in_ok-survey.ensures.1 in
+    let b = c.in_ok-look_into.ensures.1 in
     let p = err_from_is_err_and c.from_residual-in_err-seat.result c.from_residual-in_err-seat.ensures.1 in
     rw (p.1, p.2) (seat_refused b _ c.in_err-seat.ensures _ (missing_withdraw b _) _, c.in_err-seat.ensures.1)
 
 pub holes-chain-requires : goal.holes-chain-requires
-holes-chain-requires c = (start_sweeps c.in_ok-survey.ensures.1, c.in_ok-seat.ensures.1.below)
+holes-chain-requires c = (start_sweeps c.in_ok-look_into.ensures.1, c.in_ok-seat.ensures.1.below)
 
 pub returns-then-moves-movers : goal.returns-then-moves-movers
 returns-then-moves-movers c =
-    withdraw_short c.in_ok-survey.ensures.1 _ c.in_ok-seat.ensures.0 c.in_ok-seat.ensures.1 c.holes-chain.ensures _
+    withdraw_short c.in_ok-look_into.ensures.1 _ c.in_ok-seat.ensures.0 c.in_ok-seat.ensures.1 c.holes-chain.ensures _
     c.if-moves-movers.true
 
 pub fill-requires : goal.fill-requires
 fill-requires c = (
-  withdraw_fillers c.in_ok-survey.ensures.1 _ c.in_ok-seat.ensures.0 c.in_ok-seat.ensures.1 c.holes-chain.ensures _
+  withdraw_fillers c.in_ok-look_into.ensures.1 _ c.in_ok-seat.ensures.0 c.in_ok-seat.ensures.1 c.holes-chain.ensures _
       c.if-moves-movers.false,
   c.in_ok-seat.ensures.1.below,
   c.holes-chain.ensures.climbs,
@@ -41,5 +41,5 @@ fill-requires c = (
 
 pub returns : goal.returns
 returns c =
-    withdraw_done c.in_ok-survey.ensures.1 _ c.in_ok-seat.ensures.0 c.in_ok-seat.ensures.1 c.holes-chain.ensures _
+    withdraw_done c.in_ok-look_into.ensures.1 _ c.in_ok-seat.ensures.0 c.in_ok-seat.ensures.1 c.holes-chain.ensures _
     c.if-moves-movers.false c.fill.ensures

@@ -4,5 +4,5 @@ use Rattle.relay_edit.proofs.found.find_relay.Goals as goal
 
 pub spot-requires : goal.spot-requires
 spot-requires c =
-    let r = start_rises c.in_ok-n.ensures.1 in
+    let r = start_rises c.in_ok-look_into.ensures.1 in
     (r.relays_fit.there, r.relays)

@@ -1,4 +1,4 @@
--- `survey::look_over` meets its contract. The invariant: the first j tablets are placed by the rule and surveyed, and a walk to the last
+-- `survey::Survey::learn` meets its contract. The invariant: the first j tablets are placed by the rule and surveyed, and a walk to the last
 -- position, or past it, may begin at h. Assumes nothing.
 use mathlib.Core.Path.{◌≡◌, refl, sym, ap, ◌∙◌}
 use Prim.Native.Nat.{◌<◌}
@@ -14,9 +14,10 @@ use Rattle.tables.specs.Shape.{all}
 use Rattle.tables.specs.Placement.{placed_at, placed}
 use Rattle.tables.proofs.Loops.{all_more, all_false}
 use Rattle.home.proofs.Walk.{begins_none, home_at}
+use Rattle.std.proofs.Common.{rules}
 use Rattle.survey.proofs.Seats.{surveyed_none, surveyed_more, Seat, seat_below, seat_takes, seat_right}
-use Rattle.survey.proofs.look_over.Goals as goal
-use Rattle.survey.proofs.look_over.Goals.{After-slot_relay-i, After-stands_beside, After-tablet_at-p, Else-not-stands_beside, In-loop-j}
+use Rattle.survey.proofs.Survey.learn.Goals as goal
+use Rattle.survey.proofs.Survey.learn.Goals.{After-slot_relay-i, After-stands_beside, After-tablet_at-p, Else-not-stands_beside, In-loop-j}
 
 -- ---- one tablet
 -- its number is within the table
@@ -33,8 +34,8 @@ seat : (c : After-slot_relay-i)
       room = c.loop-j.room;
       next = c.loop-j.next;
       last = c.loop-j.last;
-      home = c.loop-j.home;
-      slot = c.loop-j.slot;
+      home = c.loop-j.self.home;
+      slot = c.loop-j.self.slot;
     })
     c.home_of-h.result c.led_to-k.result c.slot_relay-i.result
 seat c =
@@ -59,8 +60,8 @@ beside : (c : After-stands_beside)
       room = c.loop-j.room;
       next = c.loop-j.next;
       last = c.loop-j.last;
-      home = c.loop-j.home;
-      slot = c.loop-j.slot;
+      home = c.loop-j.self.home;
+      slot = c.loop-j.self.slot;
     })
     c.home_of-h.result c.led_to-k.result c.slot_relay-i.result
     → c.stands_beside.result ≡ placed_at (positions c.args.scheme) c.args.relays.now c.args.tablets.now c.args.n c.loop-j.j
@@ -80,7 +81,7 @@ loop-j-init c = (
   begins_none _ _ _,
   surveyed_none
       c.relay_positions-position.ensures c.ring_order-keys.ensures
-      c.relay_limits-room.ensures c.first_row-next.ensures refl refl,
+      c.relay_limits-room.ensures c.first_row-next.ensures (search rules) (search rules),
 )
 
 pub stands_beside-requires : goal.stands_beside-requires
