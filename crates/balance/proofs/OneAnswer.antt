@@ -1,6 +1,6 @@
 -- What follows from the promise.
---   balances_one    it binds: two replies that it allows for the same numbers are equal
---   results_one     so are two results
+--   balances_one    it binds: two results that it allows for the same numbers are equal
+--   balanced_one    so are two replies, with what is answered beside them
 --   rounds_up       the least that covers a, b at a time
 --   balance_none    no tablets gives 0
 -- Assumes nothing.
@@ -21,8 +21,8 @@ use Rattle.rule.specs.Balance as Rule
 use Rattle.balance.specs.Promise.{Balanced, Balances, balanced_of}
 use Rattle.balance.proofs.Ranges.{parts_some, in_range, rounded}
 
-pub balances_one : {b : Rule.Balanced} {r s : Balanced} → Balances b r → Balances b s → r ≡ s
-balances_one {b} {r} {s} x y =
+pub balanced_one : {b : Rule.Balanced} {r s : Balanced} → Balances b r → Balances b s → r ≡ s
+balanced_one {b} {r} {s} x y =
     let e : r.reply ≡ s.reply = x.reply ∙ sym y.reply in
     let l : r.limit ≡ s.limit = x.limit ∙ sym y.limit in
     λ i. record { reply = e i; limit = l i }
@@ -31,12 +31,12 @@ not_refused : {why : Refusal} → bare_reply Done ≡ bare_reply why → is_done
 unfolding is_done
 not_refused e f = true_false (ap (λ (r : Reply). is_done r.refusal) e ∙ f)
 
-pub results_one : {b : Rule.Balanced} (x y : Result ℕ Refusal) → Balances b (balanced_of x) → Balances b (balanced_of y)
+pub balances_one : {b : Rule.Balanced} (x y : Result ℕ Refusal) → Balances b (balanced_of x) → Balances b (balanced_of y)
     → IfErr x (λ why. is_done why ≡ false) → IfErr y (λ why. is_done why ≡ false) → x ≡ y
-results_one (Ok x) (Ok y) p q f g = ap Ok (p.limit ∙ sym q.limit)
-results_one (Ok x) (Err y) p q f g = absurd (not_refused (p.reply ∙ sym q.reply) g)
-results_one (Err x) (Ok y) p q f g = absurd (not_refused (q.reply ∙ sym p.reply) f)
-results_one (Err x) (Err y) p q f g = ap (λ (r : Reply). Err r.refusal) (p.reply ∙ sym q.reply)
+balances_one (Ok x) (Ok y) p q f g = ap Ok (p.limit ∙ sym q.limit)
+balances_one (Ok x) (Err y) p q f g = absurd (not_refused (p.reply ∙ sym q.reply) g)
+balances_one (Err x) (Ok y) p q f g = absurd (not_refused (q.reply ∙ sym p.reply) f)
+balances_one (Err x) (Err y) p q f g = ap (λ (r : Reply). Err r.refusal) (p.reply ∙ sym q.reply)
 
 pub rounds_up : (a b : ℕ) → 0 < b → (a ≤ rounded_up a b * b) × (rounded_up a b * b < a + b)
 rounds_up a b h = rw (rounded a b h) (div_ceil_times a b h)

@@ -1,10 +1,10 @@
 -- What the test of a table's shape tells, at the place where its numbers end.
 --   shape_ends        where a table has that shape, its numbers end behind the entries
 --   counted           it does hold there
---   edge_shape        it holds there exactly where it holds at the count of places in use
+--   edge_shape, table_edge    where the numbers could end alone, it is as well tested as at the count of places in use
 --   wrong_relays, wrong_tablets, both_right   two tables are wrong by the one shape or the other, and else right as they are placed
 -- Assumes nothing.
-use mathlib.Core.Bool.{true, false, and-false}
+use mathlib.Core.Bool.{true, false, ◌&&◌, and-false}
 use mathlib.Core.List.{List}
 use mathlib.Core.Path.{◌≡◌, sym, ap, ap₂, ◌∙◌}
 use Prim.Native.Nat.{ℕ}
@@ -13,7 +13,7 @@ use Rattle.ring.specs.Most.{most_relays, most_tablets, most_limit, top_number}
 use Rattle.ring.specs.Scheme.{Positions}
 use Rattle.ring.proofs.Tests.{split, and_right}
 use Rattle.tables.specs.Table.{places_of, number_in, beside_in}
-use Rattle.tables.specs.Shape.{shape, used_in, fits_in, table_shape}
+use Rattle.tables.specs.Shape.{used, shape, used_in, fits_in, table_shape}
 use Rattle.tables.specs.Placement.{placed, right}
 use Rattle.tables.proofs.Shaped.{shape_within, shape_entry, shape_rest, shape_used, in_use}
 use Rattle.entries.specs.Entries.{Ends, NotAsItMust, Counted, Both}
@@ -26,6 +26,16 @@ shape_ends top number beside n places e =
       numbered = λ i h. omega (arith, (shape_entry top number beside n places e i h).0);
       unnumbered = λ i h l. (shape_rest top number beside n places e i h l).0;
     }
+
+-- where the numbers could end at n alone, the shape is as well tested there as at the count of places in use
+pub edge_shape : (top : ℕ) (number beside : ℕ → ℕ) (places : ℕ) {n : ℕ} → ((k : ℕ) → Ends number places k → n ≡ k)
+    → shape top number beside n places ≡ shape top number beside (used number places) places
+edge_shape top number beside places {n} only =
+    split (shape top number beside n places)
+    (λ s. ap (λ k. shape top number beside k places) (sym (shape_used top number beside n places s)))
+    (λ e. split (shape top number beside (used number places) places)
+    (λ s. ap (λ k. shape top number beside k places) (only _ (shape_ends top number beside _ places s)))
+    (λ s. e ∙ sym s))
 
 module _ (most top : ℕ) (t : List ℕ) where
   -- at its count of places in use a table of that shape has its entries
@@ -41,15 +51,11 @@ module _ (most top : ℕ) (t : List ℕ) where
         count = sym (shape_used top (number_in t) (beside_in t) n (places_of t) (the_shape n e));
       }
 
-  -- where the numbers could end at n alone, the shape is as well tested there as at the count of places in use
-  pub edge_shape : {n : ℕ} → ((k : ℕ) → Ends (number_in t) (places_of t) k → n ≡ k)
+  -- and so is the table's
+  pub table_edge : {n : ℕ} → ((k : ℕ) → Ends (number_in t) (places_of t) k → n ≡ k)
       → table_shape most top t n ≡ table_shape most top t (used_in t)
-  edge_shape {n} only =
-      split (table_shape most top t n)
-      (λ s. ap (table_shape most top t) (counted s).count)
-      (λ e. split (table_shape most top t (used_in t))
-      (λ s. ap (table_shape most top t) (only _ (shape_ends top (number_in t) (beside_in t) _ (places_of t) (the_shape _ s))))
-      (λ s. e ∙ sym s))
+  unfolding table_shape used_in
+  table_edge only = ap (λ b. fits_in most t && b) (edge_shape top (number_in t) (beside_in t) (places_of t) only)
 
 -- ---- the two tables
 

@@ -73,19 +73,29 @@ fn shaped(
         && len == relay_distance
 }
 
-// What the trailer of bytes of right shape says.
-#[tactic(auto, unfolding(crate::specs::Opened::trailer_of, crate::specs::Opened::opened, crate::specs::Roster::shape_right))]
-pub fn open(bytes: &[u8]) -> Option<Trailer>
+// What the trailer of any bytes says: `Ok` where the shape is right, and else `Err` with what it says all the same. Bytes that are too short
+// for a trailer say zeros.
+#[tactic(auto, unfolding(crate::specs::Opened::trailer_of, crate::specs::Opened::long_trailer, crate::specs::Opened::opened, crate::specs::Opened::unopened, crate::specs::Roster::shape_right))]
+pub fn open(bytes: &[u8]) -> Result<Trailer, Trailer>
     ensures { result ≡ trailer_of bytes.now }
 {
     if bytes.len() < TRAILER_BYTES {
-        return None;
+        return Err(Trailer {
+            relays: 0,
+            tablets: 0,
+            scheme: 0,
+        });
     }
     let relay_distance = field(bytes, 0) as usize;
     let relays = field(bytes, 1) as usize;
     let tablet_distance = field(bytes, 2) as usize;
     let tablets = field(bytes, 3) as usize;
     let scheme = field(bytes, 4);
+    let trailer = Trailer {
+        relays,
+        tablets,
+        scheme,
+    };
     if shaped(
         bytes.len(),
         relay_distance,
@@ -93,12 +103,8 @@ pub fn open(bytes: &[u8]) -> Option<Trailer>
         tablet_distance,
         tablets,
     ) {
-        Some(Trailer {
-            relays,
-            tablets,
-            scheme,
-        })
+        Ok(trailer)
     } else {
-        None
+        Err(trailer)
     }
 }

@@ -1,7 +1,7 @@
 -- Reading replies with 0 for the relay, the relays passed and the moves, refused or done; and a refused reading leaves the lent tables as they were,
 -- with 0 as the scheme (document 01, "Replies", "Roster file").
 --   reply_zeros, refused_stays
---   results_one    and two results that come to one reading are equal
+--   reads_one      two readings of one roster that the promise allows are equal, with the lent tables
 -- Assumes nothing.
 use mathlib.Core.Bool.{false}
 use mathlib.Core.List.{List}
@@ -52,3 +52,10 @@ results_one (Ok x) (Ok y) e f g = ap (λ (r : Reading). Ok r.scheme) e
 results_one (Ok x) (Err y) e f g = absurd (not_refused (ap (λ (r : Reading). r.reply) e) g)
 results_one (Err x) (Ok y) e f g = absurd (not_refused (ap (λ (r : Reading). r.reply) (sym e)) f)
 results_one (Err x) (Err y) e f g = ap (λ (r : Reading). Err r.reply.refusal) e
+
+pub reads_one : (b rs ts : List ℕ) (x y : Result ℕ Refusal) {l l' : List ℕ × List ℕ} → Answers (after b rs ts) (reading_of x) l
+    → Answers (after b rs ts) (reading_of y) l' → IfErr x (λ why. is_done why ≡ false) → IfErr y (λ why. is_done why ≡ false)
+    → (x ≡ y) × (l ≡ l')
+reads_one b rs ts x y p q f g =
+    let e : (reading_of x ≡ reading_of y) × _ = Promise.answers_one p q in
+    (results_one x y e.0 f g, e.1)
