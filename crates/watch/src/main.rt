@@ -6,8 +6,9 @@ ghost use Rattle.std.specs.Prelude.{[], ◌∷◌, ◌≡◌, ◌≤◌, ◌<◌
 ghost use Rattle.std.proofs.lemmas.List.Edits.{sets};
 ghost use Rattle.watch.specs.Chunks.{bytes_of, Brings};
 
-use std::io;
 use std::io::Read;
+
+const STDOUT: i32 = 1;
 
 // As many bytes are read at once.
 const CHUNK: usize = 4096;
@@ -40,7 +41,7 @@ fn last_newline(chunk: &mut [u8], kept: usize) -> usize
 }
 
 // What a read brought that answered `got`. Where it failed, the line that it cut off is not made.
-fn after_read(chunk: &mut [u8], kept: usize, got: io::Result<usize>) -> Brought
+fn after_read(chunk: &mut [u8], kept: usize, got: std::io::Result<usize>) -> Brought
     requires { (0 < length chunk.old) × IfOk got (λ count. count ≤ length chunk.old) }
     ensures brings { Brings got kept chunk.old result chunk.new }
     ensures within { bytes_of result ≤ length chunk.new }
@@ -66,8 +67,9 @@ struct Run {
 }
 
 impl Run {
-    // Takes a byte, and sends the answer that is due. Where that fails nobody reads on, and the run is over.
-    fn take(&mut self, rt: &impl Print, byte: u8) {
+    // Takes a byte, and sends the answer that is due. Where that fails nobody reads on, and the run is over. By the kit's `io`: the write of the
+    // handle tries again where a signal stopped it, and works for each byte of a line, of which no answer is due.
+    fn take(&mut self, byte: u8) {
         self.at = input::take_byte(
             &mut self.relays,
             &mut self.tablets,
@@ -77,7 +79,7 @@ impl Run {
             self.at,
             byte,
         );
-        if rt.write_all(&self.answer[..self.at.due]).is_err() {
+        if !io::write_all(STDOUT, &self.answer[..self.at.due]) {
             self.at = stage::Standing {
                 stage: stage::Stage::Over,
                 kept: 0,
@@ -86,9 +88,9 @@ impl Run {
         }
     }
 
-    fn take_all(&mut self, rt: &impl Print, bytes: &[u8]) {
+    fn take_all(&mut self, bytes: &[u8]) {
         for byte in bytes {
-            self.take(rt, *byte);
+            self.take(*byte);
         }
     }
 }
@@ -112,9 +114,9 @@ fn main(rt: HostRuntime) {
     for _ in 0..u64::MAX {
         let got = input.read(&mut chunk);
         match after_read(&mut chunk, run.at.kept, got) {
-            Brought::More(count) => run.take_all(&rt, &chunk[..count]),
+            Brought::More(count) => run.take_all(&chunk[..count]),
             Brought::Last(count) => {
-                run.take_all(&rt, &chunk[..count]);
+                run.take_all(&chunk[..count]);
                 return;
             }
         }
