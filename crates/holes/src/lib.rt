@@ -46,7 +46,8 @@ fn next_mover(survey: &survey::Survey, i: usize) -> usize
     ensures { Next survey.now i result }
 {
     let relay = order::slot_relay(&survey.keys, usize::from(survey.slot[i]));
-    if 0 < survey.room[relay] {
+    let roomy = 0 < survey.room[relay];
+    if roomy {
         survey.m
     } else {
         next_passed(survey, i)

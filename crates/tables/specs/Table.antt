@@ -1,6 +1,6 @@
 -- Where a relay and a tablet stand in the lent tables (document 01, "The lent tables"): flat lists of numbers, two to a place.
--- Whoever reads a place reads it by these names. What lays places out knows besides how many numbers one has: `write` for tables, `layout` for
--- rosters. Assumes nothing.
+-- Whoever reads a place reads it by these names. How many numbers one has is known besides to what lays places out, `place` and `write` for tables and
+-- `layout` for rosters, and to what cuts a table into pairs, `entries` and `lookup`. Assumes nothing.
 use Rattle.std.specs.Prelude.{Bool, List, ℕ, ◌+◌, ◌*◌, ◌/◌, ◌%◌, ◌≤◌, eqb, length, get_or}
 use Rattle.ring.specs.Most.{most_relays, most_tablets}
 

@@ -5,13 +5,13 @@ use Rattle.row.specs.Row.{slot_room}
 use Rattle.holes.proofs.Sweeps.{next_at_once}
 use Rattle.holes.proofs.next_mover.Goals as goal
 
-pub returns-then-survey-relay-gt0 : goal.returns-then-survey-relay-gt0
+pub returns-then-roomy : goal.returns-then-roomy
 unfolding slot_room
-returns-then-survey-relay-gt0 c =
+returns-then-roomy c =
     next_at_once c.requires.0 _ c.requires.1
     (omega (
       arith,
-      c.if-survey-relay-gt0.true,
+      c.if-roomy.true,
       ap (λ (i : ℕ). get_or c.args.survey.now.room i 0)
           (c.slot_relay-relay.ensures.0 ∙ ap (slot_relay c.args.survey.now.keys) c.from.ensures),
     ))
