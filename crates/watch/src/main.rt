@@ -67,31 +67,35 @@ struct Run {
 }
 
 impl Run {
-    // Takes a byte, and sends the answer that is due. Where that fails nobody reads on, and the run is over. By the kit's `io`: the write of the
-    // handle tries again where a signal stopped it, and works for each byte of a line, of which no answer is due.
-    fn take(&mut self, byte: u8) {
-        self.at = input::take_byte(
+    // Takes a byte, and sends the answer that is due; where the run stands then. Where that fails nobody reads on, and the run is over. By the
+    // kit's `io`: the write of the handle tries again where a signal stopped it, and works for each byte of a line, of which no answer is due.
+    fn take(&mut self, at: stage::Standing, byte: u8) -> stage::Standing {
+        let next = input::take_byte(
             &mut self.relays,
             &mut self.tablets,
             &mut self.moves,
             &mut self.answer,
             &mut self.line,
-            self.at,
+            at,
             byte,
         );
-        if !io::write_all(STDOUT, &self.answer[..self.at.due]) {
-            self.at = stage::Standing {
+        if io::write_all(STDOUT, &self.answer[..next.due]) {
+            next
+        } else {
+            stage::Standing {
                 stage: stage::Stage::Over,
                 kept: 0,
                 due: 0,
-            };
+            }
         }
     }
 
     fn take_all(&mut self, bytes: &[u8]) {
+        let mut at = self.at;
         for byte in bytes {
-            self.take(*byte);
+            at = self.take(at, *byte);
         }
+        self.at = at;
     }
 }
 
