@@ -1,7 +1,7 @@
 -- Whether the number that was looked for stands at its place.
 --   spot_here, spot_is      where it is there, and where a call is not refused for the number, it stands at its place
 --   is_there, not_there     whether it is there, by what a search found
---   missing_refused, missing_done    a call about a number that is not there is refused, and of one that is there it is not
+--   missing_refused, absent_refused, missing_done    a call about a number that is not there is refused, and of one that is there it is not
 --   spot_above              where it is not there, the numbers from its place on are greater
 -- Assumes nothing.
 use mathlib.Core.Bool.{Bool, true, false, ◌&&◌}
@@ -24,6 +24,11 @@ use Rattle.lookup.specs.Spot.{Spot, missing}
 pub missing_refused : (x : ℕ) → is_done (missing x false) ≡ false
 unfolding missing first_bar is_done
 missing_refused x = split (eqb x 0) (λ s. rw s) (λ s. rw s)
+
+-- and so what is answered of one that is not there is its refusal
+pub absent_refused : (x : ℕ) {there : Bool} {why : Refusal} → there ≡ false → why ≡ missing x false
+    → (missing x there ≡ why) × (is_done why ≡ false)
+absent_refused x absent e = (ap (missing x) absent ∙ sym e, ap is_done e ∙ missing_refused x)
 
 -- where a call is not refused for the number, it is there
 missing_there : (x : ℕ) (there : Bool) → is_done (missing x there) ≡ true → there ≡ true

@@ -18,6 +18,7 @@ pub fn spot(table: &[u32], n: usize, x: u32) -> Result<usize, usize>
 }
 
 // The place of a number that must be there, or why the call is refused.
+#[tactic(auto, using(crate::proofs::There::absent_refused))]
 pub fn found(table: &[u32], n: usize, x: u32) -> Result<usize, rule::Refusal>
     requires { (n ≤ places_of table.now) × Ascending (number_in table.now) n }
     ensures { MatchResult result

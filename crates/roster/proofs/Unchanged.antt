@@ -1,6 +1,7 @@
 -- Reading replies with 0 for the relay, the relays passed and the moves, refused or done; and a refused reading leaves the lent tables as they were,
 -- with 0 as the scheme (document 01, "Replies", "Roster file").
 --   reply_zeros, refused_stays
+--   results_one    two results that say the same, where neither refuses with done, are equal
 --   reads_one      two readings of one roster that the promise allows are equal, with the lent tables
 -- Assumes nothing.
 use mathlib.Core.Bool.{false}

@@ -1,6 +1,7 @@
 -- Where a relay and a tablet stand in the lent tables (document 01, "The lent tables"): flat lists of numbers, two to a place.
 -- Whoever reads a place reads it by these names. How many numbers one has is known besides to what lays places out, `place` and `write` for tables and
--- `layout` for rosters, and to what cuts a table into pairs, `entries` and `lookup`. Assumes nothing.
+-- `layout` for rosters, to what cuts a table into pairs, `entries`, `lookup` and `drill`, and to `relay_edit` and `roster`, which have
+-- tables of their own. Assumes nothing.
 use Rattle.std.specs.Prelude.{Bool, List, ℕ, ◌+◌, ◌*◌, ◌/◌, ◌%◌, ◌≤◌, eqb, length, get_or}
 use Rattle.ring.specs.Most.{most_relays, most_tablets}
 

@@ -1,10 +1,10 @@
 -- Places that are moved one up or one down, and what the table is at the end. f is the table before, g the table now.
---   moved_up, put_in          places moved up, and an entry put in
---   moved_down, taken_out     places moved down, and zeros at the end
+--   moved_down                places that a block move has moved down
+--   put_in, taken_out         after a move up an entry put in, after a move down zeros at the end
 --   changed_put               what stands beside one number is changed
 -- Assumes nothing.
 use mathlib.Core.List.{List}
-use mathlib.Core.Path.{◌≡◌, refl, sym, ap, ap₂, ◌∙◌, subst}
+use mathlib.Core.Path.{◌≡◌, sym, ap, ap₂, ◌∙◌, subst}
 use Prim.Native.Nat.{ℕ, suc, ◌+◌, ◌-◌, ◌*◌, ◌≤◌, ◌<◌}
 use native.Mathlib.Numerals.{add-one}
 use native.Mathlib.Omega.{arith}
@@ -46,45 +46,33 @@ pub record Lowered (f g : ℕ → Entry) (at j : ℕ) : Type 0 where
   pub down : (i : ℕ) → at ≤ i → i < j → g i ≡ f (suc i)
   pub high : (i : ℕ) → j ≤ i → g i ≡ f i
 
--- ---- moved up
+-- ---- moved down
 
 -- the entry of place i, by the two numbers that it has
-at_place : (l r : List ℕ) (i j a b : ℕ) → a ≡ 2 * i → b ≡ 2 * i + 1 → get_or l a 0 ≡ get_or r (2 * j) 0
-    → get_or l b 0 ≡ get_or r (2 * j + 1) 0 → place_at l i ≡ place_at r j
+at_place : (l r : List ℕ) (i j : ℕ) → get_or l (2 * i) 0 ≡ get_or r (2 * j) 0
+    → get_or l (2 * i + 1) 0 ≡ get_or r (2 * j + 1) 0 → place_at l i ≡ place_at r j
 unfolding number_in beside_in
-at_place l r i j a b ea eb p q = ap₂ entry (ap (λ k. get_or l k 0) (sym ea) ∙ p) (ap (λ k. get_or l k 0) (sym eb) ∙ q)
+at_place l r i j p q = ap₂ entry p q
 
 module _ (t l : List ℕ) (n at : ℕ) where
-  pub moved_up : at ≤ n → CopiedTo t l (2 * at) (2 * at + 2) (2 * n - 2 * at) → SameBelow t l (2 * at + 2)
-      → SameFrom t l (2 * at + 2 + (2 * n - 2 * at)) → Raised (place_at t) (place_at l) n at
-  moved_up h copied below from =
-      record {
-        low = λ i k. at_place l t i i _ _ refl refl (below (2 * i) 0 (omega arith)) (below (2 * i + 1) 0 (omega arith));
-        up = λ i a b.
-            at_place l t (suc i) i (2 * i + 2) (2 * i + 3) (omega arith) (omega arith)
-            (copied (2 * i + 2) 0 (omega arith) (omega arith)
-            ∙ ap (λ k. get_or t k 0) (let e : 2 * at + (2 * i + 2 - (2 * at + 2)) ≡ 2 * i = omega arith in e))
-            (copied (2 * i + 3) 0 (omega arith) (omega arith)
-            ∙ ap (λ k. get_or t k 0) (let e : 2 * at + (2 * i + 3 - (2 * at + 2)) ≡ 2 * i + 1 = omega arith in e));
-        high = λ i k. at_place l t i i _ _ refl refl (from (2 * i) 0 (omega arith)) (from (2 * i + 1) 0 (omega arith));
-      }
-
   pub moved_down : at < n → CopiedTo t l (2 * at + 2) (2 * at) (2 * n - (2 * at + 2)) → SameBelow t l (2 * at)
       → SameFrom t l (2 * at + (2 * n - (2 * at + 2))) → Lowered (place_at t) (place_at l) at (n - 1)
   moved_down h copied below from =
       record {
-        low = λ i k. at_place l t i i _ _ refl refl (below (2 * i) 0 (omega arith)) (below (2 * i + 1) 0 (omega arith));
+        low = λ i k. at_place l t i i (below (2 * i) 0 (omega arith)) (below (2 * i + 1) 0 (omega arith));
         down = λ i a b.
-            at_place l t i (suc i) _ _ refl refl
+            at_place l t i (suc i)
             (copied (2 * i) 0 (omega arith) (omega arith)
             ∙ ap (λ k. get_or t k 0) (let e : 2 * at + 2 + (2 * i - 2 * at) ≡ 2 * suc i = omega arith in e))
             (copied (2 * i + 1) 0 (omega arith) (omega arith)
             ∙ ap (λ k. get_or t k 0) (let e : 2 * at + 2 + (2 * i + 1 - 2 * at) ≡ 2 * suc i + 1 = omega arith in e));
-        high = λ i k. at_place l t i i _ _ refl refl (from (2 * i) 0 (omega arith)) (from (2 * i + 1) 0 (omega arith));
+        high = λ i k. at_place l t i i (from (2 * i) 0 (omega arith)) (from (2 * i + 1) 0 (omega arith));
       }
 
+-- ---- what is written after a move
+
 module _ (f g : ℕ → Entry) (n at : ℕ) where
-  -- and an entry put in
+  -- an entry put in
   pub put_in : {h : ℕ → Entry} (x v : ℕ) → Raised f g n at → Place (λ i. (f i).number) n x at → Changed g h at (entry x v)
       → Wrote f h (n + 1) (insert x v (firsts f n))
   put_in {h = h} x v s p c =
@@ -96,7 +84,7 @@ module _ (f g : ℕ → Entry) (n at : ℕ) where
         later = λ i b. c.other i (λ (z : i ≡ at). omega (arith, p.within)) ∙ s.high i (omega arith);
       }
 
-  -- and zeros at the end
+  -- zeros at the end
   pub taken_out : {h : ℕ → Entry} → Lowered f g at (n - 1) → at < n → Climbs (λ i. (f i).number) n
       → Changed g h (n - 1) (entry 0 0) → Took f h (n - 1) (delete (f at).number (firsts f n))
   taken_out {h = h} s p climb c =

@@ -17,7 +17,15 @@ pub fn insert(table: &mut [u32], n: usize, at: usize, number: u32, beside: u32)
     ensures { WroteEntries table.old table.new (n + 1)
         (insert number beside (entries_in table.old n)) }
 {
-    table.copy_within(2 * at..2 * n, 2 * at + 2);
+    // Entry by entry, from the last down. A block move tells no number from what stands beside it, so no must-fail edit could err in the one alone.
+    for i in (at..n).rev() {
+        place::set(
+            table,
+            i + 1,
+            tables::number(table, i),
+            tables::beside(table, i),
+        );
+    }
     place::set(table, at, number, beside);
 }
 

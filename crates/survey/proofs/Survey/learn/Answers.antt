@@ -17,7 +17,7 @@ use Rattle.home.proofs.Walk.{begins_none, home_at}
 use Rattle.std.proofs.Common.{rules}
 use Rattle.survey.proofs.Seats.{surveyed_none, surveyed_more, Seat, seat_below, seat_takes, seat_right}
 use Rattle.survey.proofs.Survey.learn.Goals as goal
-use Rattle.survey.proofs.Survey.learn.Goals.{After-slot_relay-i, After-stands_beside, After-tablet_at-p, Else-not-stands_beside, In-loop-j}
+use Rattle.survey.proofs.Survey.learn.Goals.{After-slot_relay-i, After-stands_beside, Else-not-stands_beside, In-loop-j}
 
 -- ---- one tablet
 -- its number is within the table
