@@ -1,7 +1,6 @@
 -- The numbers that a balance can work with.
 --   parts_some          the divisor is not 0
 --   in_range            what is not refused is within range
---   done_in_range, balances_done    so is what is done, and it has the paper's limit
 --   balances_refused    what is refused has no limit
 --   rounded             the library's quotient, rounded up, is document 01's
 -- Assumes nothing.
@@ -13,10 +12,9 @@ use native.Mathlib.Omega.{arith}
 use Rattle.std.specs.Int.{div_ceil}
 use Rattle.std.proofs.lemmas.Grind.{common_steps}
 use Rattle.rule.specs.declared.Refusal.{Refusal}
-use Rattle.rule.specs.declared.Refusal.TheVariants.{Done}
-use Rattle.std.specs.Prelude.{false, Ok, Err}
+use Rattle.std.specs.Prelude.{false, Err}
 use Rattle.rule.specs.Refusals.{is_done, bare_reply, first_bar}
-use Rattle.rule.specs.Balance.{balance_refusal, rounded_up, balanced_limit, balance}
+use Rattle.rule.specs.Balance.{balance_refusal, rounded_up, balance}
 use Rattle.balance.specs.Promise.{InRange, Balances, balanced_of}
 
 pub parts_some : {p q tablets relays : ℕ} → InRange p q tablets relays → 0 < q * relays
@@ -36,15 +34,6 @@ module _ (p q tablets relays : ℕ) where
         few_tablets = grind (arith, common_steps, d);
         few_relays = grind (arith, common_steps, d);
       }
-
-  pub done_in_range : balance_refusal p q tablets relays ≡ Done → InRange p q tablets relays
-  unfolding is_done
-  done_in_range d = in_range (ap is_done d)
-
-  pub balances_done : {limit : ℕ} → balance_refusal p q tablets relays ≡ Done → limit ≡ balanced_limit p q tablets relays
-      → Balances (balance p q tablets relays) (balanced_of (Ok limit))
-  unfolding balance is_done
-  balances_done d e = record { reply = rw d; limit = rw d e }
 
   -- ---- what is refused
 

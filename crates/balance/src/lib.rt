@@ -14,7 +14,6 @@ const MOST_TABLETS: u32 = ring::MOST_TABLETS as u32;
 const MOST_RELAYS: u32 = ring::MOST_RELAYS as u32;
 
 // The limit of every relay, with balance p/q, or why there is none.
-#[tactic(auto, using(crate::proofs::Ranges::done_in_range, crate::proofs::Ranges::balances_done))]
 pub fn balance(p: u32, q: u32, tablets: u32, relays: u32) -> Result<u32, rule::Refusal>
     ensures limit { Balances (balance p q tablets relays) (balanced_of result) }
     ensures refused { IfErr result (λ why. is_done why ≡ false) }

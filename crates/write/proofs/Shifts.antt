@@ -48,25 +48,20 @@ pub record Lowered (f g : ℕ → Entry) (at j : ℕ) : Type 0 where
 
 -- ---- moved down
 
--- the entry of place i, by the two numbers that it has
-at_place : (l r : List ℕ) (i j : ℕ) → get_or l (2 * i) 0 ≡ get_or r (2 * j) 0
-    → get_or l (2 * i + 1) 0 ≡ get_or r (2 * j + 1) 0 → place_at l i ≡ place_at r j
-unfolding number_in beside_in
-at_place l r i j p q = ap₂ entry p q
-
 module _ (t l : List ℕ) (n at : ℕ) where
   pub moved_down : at < n → CopiedTo t l (2 * at + 2) (2 * at) (2 * n - (2 * at + 2)) → SameBelow t l (2 * at)
       → SameFrom t l (2 * at + (2 * n - (2 * at + 2))) → Lowered (place_at t) (place_at l) at (n - 1)
+  unfolding number_in beside_in
   moved_down h copied below from =
       record {
-        low = λ i k. at_place l t i i (below (2 * i) 0 (omega arith)) (below (2 * i + 1) 0 (omega arith));
+        low = λ i k. ap₂ entry (below (2 * i) 0 (omega arith)) (below (2 * i + 1) 0 (omega arith));
         down = λ i a b.
-            at_place l t i (suc i)
+            ap₂ entry
             (copied (2 * i) 0 (omega arith) (omega arith)
             ∙ ap (λ k. get_or t k 0) (let e : 2 * at + 2 + (2 * i - 2 * at) ≡ 2 * suc i = omega arith in e))
             (copied (2 * i + 1) 0 (omega arith) (omega arith)
             ∙ ap (λ k. get_or t k 0) (let e : 2 * at + 2 + (2 * i + 1 - 2 * at) ≡ 2 * suc i + 1 = omega arith in e));
-        high = λ i k. at_place l t i i (from (2 * i) 0 (omega arith)) (from (2 * i + 1) 0 (omega arith));
+        high = λ i k. ap₂ entry (from (2 * i) 0 (omega arith)) (from (2 * i + 1) 0 (omega arith));
       }
 
 -- ---- what is written after a move

@@ -1,4 +1,4 @@
--- `lookup::found` meets its contract: a number that was found is not zero. That it is refused where it was not is found by `absent_refused`.
+-- `lookup::found` meets its contract: a number that was found is not zero. Where it was not found, search shows the refusal by `absent_refused`.
 -- Assumes nothing.
 use mathlib.Core.Path.{ap, ◌∙◌}
 use native.Mathlib.Omega.{arith}
